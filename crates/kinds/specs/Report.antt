@@ -1,0 +1,19 @@
+-- Document 01's table of reports: the number of each.
+use Prim.Native.Nat.{ℕ}
+use Rattle.kinds.specs.declared.Report.{Report}
+use Rattle.kinds.specs.declared.Report.the-variants.{Success, BadImage, BadUser, BadTime, ClockNotLater, NotManager, BadKey, BadCount, BadRoom, Damaged, NoSuchBlock, NotOwner, NoSpace}
+
+abbrev pub numberOf : Report → ℕ
+numberOf Success = 0
+numberOf BadImage = 1
+numberOf BadUser = 2
+numberOf BadTime = 3
+numberOf ClockNotLater = 4
+numberOf NotManager = 5
+numberOf BadKey = 6
+numberOf BadCount = 7
+numberOf BadRoom = 8
+numberOf Damaged = 9
+numberOf NoSuchBlock = 10
+numberOf NotOwner = 11
+numberOf NoSpace = 12

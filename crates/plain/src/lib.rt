@@ -1,0 +1,1 @@
+// Facts of numbers and tests that proofs share. No function.

@@ -1,0 +1,80 @@
+-- One turn and the end of each loop over bytes: of the loop that reads a number, of the three that write, and of the zero test.
+-- Assumes nothing.
+use Prim.Native.Nat.{ℕ, zero, suc, _+_, _*_, _-_, _/_, _%_, _≤_, _<_}
+use mathlib.Core.Path.{_≡_, refl, sym, ap, ap₂, _∙_}
+use mathlib.Core.Bool.{Bool, true, false, _&&_, and-assoc}
+use mathlib.Core.List.{List, [], _∷_, _++_}
+use native.Mathlib.Nat.{add-zero}
+use native.Mathlib.Numerals.{add-one}
+use native.Mathlib.Omega.{arith}
+use borrow.Author.Tests.{eq-eqb, ne-eqb}
+use lib.Bits.{bitOr, bitAnd, or-add-and, and-le-l, and-le-r}
+use lib.Dec.{eqb}
+use lib.ListN.{length, drop, getD, set, length-set}
+use lib.Seq.{sets, sets-eq, drop-cons}
+use Rattle.word.specs.Word.{part, le, wordAt, bytesOf, blank, allZero}
+use Rattle.word.specs.Write.{over}
+
+-- ---- a part, from its first byte on
+
+pub part-turn : (l : List ℕ) (at k : ℕ) → at < length l → part l at (suc k) ≡ getD l at 0 ∷ part l (at + 1) k
+unfolding part
+part-turn l at k h = rw (drop-cons l at 0 h, add-one)
+
+pub word-one : (l : List ℕ) (at : ℕ) → at < length l → wordAt 1 l at ≡ getD l at 0
+unfolding le part
+word-one l at h = rw (drop-cons l at 0 h) (omega arith)
+
+-- one byte more, downwards
+pub word-turn : (l : List ℕ) (at k j : ℕ) → 0 < j → j ≤ k → at + k ≤ length l
+    → getD l (at + (j - 1)) 0 + 256 * wordAt (k - j) l (at + j) ≡ wordAt (k - (j - 1)) l (at + (j - 1))
+unfolding le
+word-turn l at k j p q h =
+    let e : k - (j - 1) ≡ suc (k - j) = omega arith in
+    let f : at + j ≡ at + (j - 1) + 1 = omega arith in
+    rw (e, f, part-turn l (at + (j - 1)) (k - j) (omega arith))
+
+-- ---- a loop that stores: what is left to be stored, stored into what there is, gives what is to be
+
+unfoldable pub storing : List ℕ → ℕ → List ℕ → List ℕ
+storing l at vs = sets l at vs
+
+pub store-turn : (l : List ℕ) (at i v : ℕ) (vs : List ℕ) → storing (set l (at + i) v) (at + (i + 1)) vs ≡ storing l (at + i) (v ∷ vs)
+unfolding storing
+store-turn l at i v vs = let e : at + (i + 1) ≡ suc (at + i) = omega arith in rw e
+
+-- the bytes of a number, of a run of zeros and of a list that are left after i
+pub bytesOf-turn : (k i v : ℕ) → i < k → bytesOf (k - i) v ≡ v % 256 ∷ bytesOf (k - (i + 1)) (v / 256)
+unfolding bytesOf
+bytesOf-turn k i v h = let e : k - i ≡ suc (k - (i + 1)) = omega arith in rw e
+
+pub blank-turn : (k i : ℕ) → i < k → blank (k - i) ≡ 0 ∷ blank (k - (i + 1))
+unfolding blank
+blank-turn k i h = let e : k - i ≡ suc (k - (i + 1)) = omega arith in rw e
+
+pub drop-turn : (l : List ℕ) (i : ℕ) → i < length l → drop i l ≡ getD l i 0 ∷ drop (i + 1) l
+drop-turn l i h = rw (drop-cons l i 0 h, add-one)
+
+-- nothing left, and the whole
+pub store-end : (l : List ℕ) (at : ℕ) → storing l at [] ≡ l
+unfolding storing
+store-end l at = refl
+
+pub stored : (l : List ℕ) (at : ℕ) (vs : List ℕ) → at + length vs ≤ length l → storing l at vs ≡ over l at vs
+unfolding storing over
+stored l at vs h = sets-eq vs l at h
+
+-- ---- the zero test: the bytes or-ed together are zero where each is
+
+or-zero : (a b : ℕ) → eqb (bitOr a b) 0 ≡ (eqb a 0 && eqb b 0)
+or-zero zero b = refl
+or-zero (suc a) b =
+    rw (ne-eqb (bitOr (suc a) b) 0 (λ e. omega (arith, or-add-and (suc a) b, and-le-r (suc a) b)), ne-eqb (suc a) 0 (λ e. omega arith))
+
+pub zero-turn : (l : List ℕ) (at k i acc : ℕ) → i < k → at + k ≤ length l
+    → (eqb (bitOr acc (getD l (at + i) 0)) 0 && allZero (part l (at + (i + 1)) (k - (i + 1)))) ≡ (eqb acc 0 && allZero (part l (at + i) (k - i)))
+unfolding allZero
+zero-turn l at k i acc h f =
+    let e : k - i ≡ suc (k - (i + 1)) = omega arith in
+    let g : at + (i + 1) ≡ at + i + 1 = omega arith in
+    rw (e, g, part-turn l (at + i) (k - (i + 1)) (omega arith), or-zero) (and-assoc (eqb acc 0) (eqb (getD l (at + i) 0) 0) _)

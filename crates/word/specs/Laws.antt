@@ -1,0 +1,184 @@
+-- What a reader wants to know of runs of bytes, each over the width: lengths, bounds, that the two spellings of a number undo one
+-- another, and what is read after a write, at the same place and at another.
+-- Assumes nothing.
+use Prim.Native.Nat.{ℕ, zero, suc, _+_, _*_, _-_, _/_, _%_, _^_, _≤_, _<_, min}
+use mathlib.Core.Path.{_≡_, refl, sym, ap, ap₂, _∙_}
+use mathlib.Core.Bool.{true}
+use mathlib.Core.Logic.{⊎-elim}
+use mathlib.Core.List.{List, [], _∷_, _++_, append-assoc}
+use native.Mathlib.Nat.{pow-suc, pow-zero, div-lt-iff-lt-mul, le-trans, pow-le-pow-right}
+use native.Mathlib.Omega.{arith}
+use borrow.Author.Tests.{eqb-true}
+use lib.Dec.{eqb, lit<}
+use lib.ListN.{length, take, drop, getD, length-append, length-take, length-drop, List·getD-append, List·getD-eq-default}
+use lib.Seq.{getD-take, getD-drop, getD-append-add, ext-getD, take-append-seam, drop-append-add, take-at, drop-at}
+use Rattle.plain.specs.Numbers.{lt-or-le}
+use Rattle.plain.specs.Tests.{both}
+use Rattle.word.specs.Word.{part, le, wordAt, bytesOf, blank, allZero, Bytes}
+use Rattle.word.specs.Write.{over, Write, puts, Apart, Within, Spares, nth, Stays}
+
+-- ---- lengths
+
+pub length-part : (l : List ℕ) (at k : ℕ) → at + k ≤ length l → length (part l at k) ≡ k
+unfolding part
+length-part l at k h = simp (length-take, length-drop) (omega arith)
+
+pub length-bytesOf : (k v : ℕ) → length (bytesOf k v) ≡ k
+unfolding bytesOf
+length-bytesOf zero v = refl
+length-bytesOf (suc k) v = ap suc (length-bytesOf k (v / 256))
+
+pub length-blank : (k : ℕ) → length (blank k) ≡ k
+unfolding blank
+length-blank zero = refl
+length-blank (suc k) = ap suc (length-blank k)
+
+pub length-over : (l : List ℕ) (at : ℕ) (vs : List ℕ) → at + length vs ≤ length l → length (over l at vs) ≡ length l
+unfolding over
+length-over l at vs h = simp (length-append, length-take, length-drop) (omega arith)
+
+-- what the places of writes are compared by: `simp sizes (omega arith)` shows Within, Spares and Stays
+pub ruleset sizes = (length-bytesOf, length-blank)
+
+-- ---- parts
+
+pub getD-part : (l : List ℕ) (at k i : ℕ) → i < k → getD (part l at k) i 0 ≡ getD l (at + i) 0
+unfolding part
+getD-part l at k i h = rw (getD-take, getD-drop)
+
+length-part-any : (l : List ℕ) (at k : ℕ) → length (part l at k) ≡ min k (length l - at)
+unfolding part
+length-part-any l at k = simp (length-take, length-drop)
+
+-- two lists of one length that agree at the places of a part have one part there
+pub part-agree : (l l′ : List ℕ) (at k : ℕ) → length l ≡ length l′ → ((x : ℕ) → at ≤ x → x < at + k → getD l x 0 ≡ getD l′ x 0) → part l at k ≡ part l′ at k
+part-agree l l′ at k e h =
+    ext-getD 0 (part l at k) (part l′ at k) (simp length-part-any (omega arith))
+    (λ i p. let b : i < k = omega (arith, length-part-any l at k) in
+    rw (getD-part l at k i b, getD-part l′ at k i b) (h (at + i) (omega arith) (omega arith)))
+
+-- a part of a part
+pub part-part : (l : List ℕ) (at k i n : ℕ) → i + n ≤ k → part (part l at k) i n ≡ part l (at + i) n
+part-part l at k i n h =
+    ext-getD 0 (part (part l at k) i n) (part l (at + i) n) (simp length-part-any (omega arith))
+    (λ j p. let b : j < n = omega (arith, length-part-any (part l at k) i n) in
+    rw (getD-part (part l at k) i n j b, getD-part l at k (i + j) (omega arith), getD-part l (at + i) n j b)
+    (ap (λ (x : ℕ). getD l x 0) (omega arith)))
+
+-- ---- one write
+
+module _ (l : List ℕ) (at : ℕ) (vs : List ℕ) (h : at + length vs ≤ length l) where
+  before : (x : ℕ) → x < at → getD (over l at vs) x 0 ≡ getD l x 0
+  unfolding over
+  before x b =
+      let n : length (take at l) ≡ at = simp length-take (omega arith) in
+      rw append-assoc (List·getD-append (take at l) (vs ++ drop (at + length vs) l) 0 x (omega arith) ∙ getD-take at l x 0 b)
+
+  after : (x : ℕ) → at + length vs ≤ x → getD (over l at vs) x 0 ≡ getD l x 0
+  unfolding over
+  after x b =
+      let n : length (take at l ++ vs) ≡ at + length vs = simp (length-append, length-take) (omega arith) in
+      let e : x ≡ length (take at l ++ vs) + (x - (at + length vs)) = omega arith in
+      ap (λ (y : ℕ). getD (take at l ++ vs ++ drop (at + length vs) l) y 0) e
+      ∙ getD-append-add (take at l ++ vs) (drop (at + length vs) l) (x - (at + length vs)) 0
+      ∙ getD-drop (at + length vs) l (x - (at + length vs)) 0
+      ∙ ap (λ (y : ℕ). getD l y 0) (omega arith)
+
+  -- a place that is not written keeps its byte
+  pub kept : (x : ℕ) → (at ≤ x → x < at + length vs → ⊥) → getD (over l at vs) x 0 ≡ getD l x 0
+  kept x a = ⊎-elim (before x) (λ p. after x (⊎-elim (λ q. absurd (a p q)) (λ q. q) (lt-or-le x (at + length vs)))) (lt-or-le x at)
+
+  -- what is written elsewhere does not show
+  pub frame : (a k : ℕ) → Apart a k at (length vs) → part (over l at vs) a k ≡ part l a k
+  frame a k p = part-agree (over l at vs) l a k (length-over l at vs h) (λ x q r. kept x (p x q r))
+
+  -- what is written at a place is read there
+  pub same : part (over l at vs) at (length vs) ≡ vs
+  unfolding over part
+  same =
+      rw (append-assoc, drop-at (take at l) (vs ++ drop (at + length vs) l) at (simp length-take (omega arith)))
+      (take-append-seam vs (drop (at + length vs) l))
+
+-- ---- a list of writes
+
+pub length-puts : (ws : List Write) (l : List ℕ) → Within (length l) ws → length (puts l ws) ≡ length l
+unfolding puts
+length-puts [] l h = refl
+length-puts (w ∷ ws) l h =
+    let e = length-over l (w .at) (w .bytes) (h .0) in
+    length-puts ws (over l (w .at) (w .bytes)) (rw e (h .1)) ∙ e
+
+-- a place that no write touches is as it was
+pub frames : (ws : List Write) (l : List ℕ) (a k : ℕ) → Within (length l) ws → Spares a k ws → part (puts l ws) a k ≡ part l a k
+unfolding puts
+frames [] l a k h s = refl
+frames (w ∷ ws) l a k h s =
+    frames ws (over l (w .at) (w .bytes)) a k (rw (length-over l (w .at) (w .bytes) (h .0)) (h .1)) (s .1)
+    ∙ frame l (w .at) (w .bytes) (h .0) a k (s .0)
+
+-- a write that no later one touches reads back
+pub got : (i : ℕ) (ws : List Write) (l : List ℕ) → Within (length l) ws → Stays i ws → part (puts l ws) (nth i ws .at) (length (nth i ws .bytes)) ≡ nth i ws .bytes
+unfolding puts part
+got i [] l h s = refl
+got zero (w ∷ ws) l h s =
+    frames ws (over l (w .at) (w .bytes)) (w .at) (length (w .bytes)) (rw (length-over l (w .at) (w .bytes) (h .0)) (h .1)) s
+    ∙ same l (w .at) (w .bytes) (h .0)
+got (suc i) (w ∷ ws) l h s = got i ws (over l (w .at) (w .bytes)) (rw (length-over l (w .at) (w .bytes) (h .0)) (h .1)) s
+
+-- ---- numbers
+
+-- a number below 256 ^ k is spelled by k bytes, and read back
+pub le-bytesOf : (k v : ℕ) → v < 256 ^ k → le (bytesOf k v) ≡ v
+unfolding bytesOf le
+le-bytesOf zero v h = omega (arith, rw pow-zero at h)
+le-bytesOf (suc k) v h =
+    let q : v / 256 < 256 ^ k = div-lt-iff-lt-mul {k = 256} {x = v} {y = 256 ^ k} (omega arith) .1 (rw pow-suc at h) in
+    rw (le-bytesOf k (v / 256) q) (omega arith)
+
+-- bytes are the spelling of the number that they spell
+pub bytesOf-le : (bs : List ℕ) → Bytes bs → bytesOf (length bs) (le bs) ≡ bs
+unfolding bytesOf le
+bytesOf-le [] h = refl
+bytesOf-le (b ∷ bs) h =
+    let b< : b < 256 = h 0 in
+    let m : (b + 256 * le bs) % 256 ≡ b = omega arith in
+    let d : (b + 256 * le bs) / 256 ≡ le bs = omega arith in
+    rw (m, d) (ap (λ r. b ∷ r) (bytesOf-le bs (λ i. h (suc i))))
+
+-- k bytes spell a number below 256 ^ k
+pub le-bound : (bs : List ℕ) → Bytes bs → le bs < 256 ^ length bs
+unfolding le
+le-bound [] h = rw pow-zero (omega arith)
+le-bound (b ∷ bs) h = rw pow-suc (omega (arith, h 0, le-bound bs (λ i. h (suc i))))
+
+bytes-part : (l : List ℕ) (at k : ℕ) → Bytes l → Bytes (part l at k)
+bytes-part l at k h i =
+    ⊎-elim
+    (λ (p : i < k). rw (getD-part l at k i p) (h (at + i)))
+    (λ (p : k ≤ i). rw (List·getD-eq-default (part l at k) 0 {n = i} (omega (arith, length-part-any l at k))) (omega arith))
+    (lt-or-le i k)
+
+pub word-bound : (k : ℕ) (l : List ℕ) (at : ℕ) → Bytes l → wordAt k l at < 256 ^ k
+word-bound k l at h =
+    le-trans (le-bound (part l at k) (bytes-part l at k h)) (pow-le-pow-right (lit< tt) (omega (arith, length-part-any l at k)))
+
+pub word-below : (m k : ℕ) (l : List ℕ) (at : ℕ) → Bytes l → k ≤ m → wordAt k l at < 256 ^ m
+word-below m k l at h b = le-trans (word-bound k l at h) (pow-le-pow-right (lit< tt) b)
+
+-- a number that is written reads back, at its own place
+pub word-same : (k : ℕ) (l : List ℕ) (at v : ℕ) → at + k ≤ length l → v < 256 ^ k → wordAt k (over l at (bytesOf k v)) at ≡ v
+word-same k l at v h b =
+    ap le (rw length-bytesOf at (same l at (bytesOf k v) (rw length-bytesOf h))) ∙ le-bytesOf k v b
+
+-- ---- runs of zeros
+
+pub allZero-blank : (k : ℕ) → allZero (blank k) ≡ true
+unfolding allZero blank
+allZero-blank zero = refl
+allZero-blank (suc k) = allZero-blank k
+
+-- a run that is all zero is as many zero bytes
+pub zero-blank : (l : List ℕ) → allZero l ≡ true → l ≡ blank (length l)
+unfolding allZero blank
+zero-blank [] h = refl
+zero-blank (b ∷ bs) h = let w = both (eqb b 0) (allZero bs) h in ap₂ _∷_ (eqb-true b 0 (w .0)) (zero-blank bs (w .1))

@@ -1,0 +1,115 @@
+// Little-endian numbers and runs of bytes, read from and written to a lent slice.
+ghost use mathlib.Core.Path.{_≡_};
+ghost use Prim.Native.Nat.{_+_, _≤_, _<_};
+ghost use lib.ListN.{length};
+ghost use Rattle.word.specs.Word.{part, wordAt, bytesOf, blank, allZero};
+ghost use Rattle.word.specs.Write.{over};
+
+// The number that k bytes from a place spell: the one body of the reads.
+fn read(s: &[u8], at: usize, k: usize) -> u64
+    requires { ⌜ (k ≤ 8) × (at + k ≤ length (now s)) ⌝ }
+    ensures { λ r. ⌜ r ≡ wordAt k (now (s .entry)) at ⌝ }
+{
+    let mut acc: u64 = 0;
+    let mut j = k;
+    while 0 < j {
+        j -= 1;
+        let b = s[at + j] as u64;
+        acc = b + 256 * acc;
+    }
+    acc
+}
+
+pub fn get8(s: &[u8], at: usize) -> u8
+    requires { ⌜ at + 1 ≤ length (now s) ⌝ }
+    ensures { λ r. ⌜ r ≡ wordAt 1 (now (s .entry)) at ⌝ }
+{
+    s[at]
+}
+
+pub fn get32(s: &[u8], at: usize) -> u32
+    requires { ⌜ at + 4 ≤ length (now s) ⌝ }
+    ensures { λ r. ⌜ r ≡ wordAt 4 (now (s .entry)) at ⌝ }
+{
+    read(s, at, 4) as u32
+}
+
+pub fn get64(s: &[u8], at: usize) -> u64
+    requires { ⌜ at + 8 ≤ length (now s) ⌝ }
+    ensures { λ r. ⌜ r ≡ wordAt 8 (now (s .entry)) at ⌝ }
+{
+    read(s, at, 8)
+}
+
+// The k low bytes of a number to a place: the one body of the writes.
+fn write(s: &mut [u8], at: usize, k: usize, v: u64)
+    requires { ⌜ at + k ≤ length (now s) ⌝ }
+    ensures { λ _. ⌜ now (s .exit) ≡ over (now (s .entry)) at (bytesOf k v) ⌝ }
+{
+    let mut rest = v;
+    let mut i = 0;
+    while i < k {
+        s[at + i] = (rest % 256) as u8;
+        rest = rest / 256;
+        i += 1;
+    }
+}
+
+pub fn put8(s: &mut [u8], at: usize, v: u8)
+    requires { ⌜ at + 1 ≤ length (now s) ⌝ }
+    ensures { λ _. ⌜ now (s .exit) ≡ over (now (s .entry)) at (bytesOf 1 v) ⌝ }
+{
+    s[at] = v;
+}
+
+pub fn put32(s: &mut [u8], at: usize, v: u32)
+    requires { ⌜ at + 4 ≤ length (now s) ⌝ }
+    ensures { λ _. ⌜ now (s .exit) ≡ over (now (s .entry)) at (bytesOf 4 v) ⌝ }
+{
+    write(s, at, 4, v as u64)
+}
+
+pub fn put64(s: &mut [u8], at: usize, v: u64)
+    requires { ⌜ at + 8 ≤ length (now s) ⌝ }
+    ensures { λ _. ⌜ now (s .exit) ≡ over (now (s .entry)) at (bytesOf 8 v) ⌝ }
+{
+    write(s, at, 8, v)
+}
+
+// Zeroes k bytes from a place.
+pub fn clear(s: &mut [u8], at: usize, k: usize)
+    requires { ⌜ at + k ≤ length (now s) ⌝ }
+    ensures { λ _. ⌜ now (s .exit) ≡ over (now (s .entry)) at (blank k) ⌝ }
+{
+    let mut i = 0;
+    while i < k {
+        s[at + i] = 0;
+        i += 1;
+    }
+}
+
+// Copies all of src to a place.
+pub fn paste(s: &mut [u8], at: usize, src: &[u8])
+    requires { ⌜ at + length (now src) ≤ length (now s) ⌝ }
+    ensures { λ _. ⌜ now (s .exit) ≡ over (now (s .entry)) at (now (src .entry)) ⌝ }
+{
+    let mut i = 0;
+    while i < src.len() {
+        s[at + i] = src[i];
+        i += 1;
+    }
+}
+
+// Whether the k bytes from a place are all zero. All are looked at: a loop that stops early does not vectorize.
+pub fn is_zero(s: &[u8], at: usize, k: usize) -> bool
+    requires { ⌜ at + k ≤ length (now s) ⌝ }
+    ensures { λ r. ⌜ r ≡ allZero (part (now (s .entry)) at k) ⌝ }
+{
+    let mut acc: u8 = 0;
+    let mut i = 0;
+    while i < k {
+        acc = acc | s[at + i];
+        i += 1;
+    }
+    acc == 0
+}
