@@ -1,2 +1,3 @@
+pub mod Kinds
 pub mod Report
 pub mod Laws

@@ -3,17 +3,18 @@
 use Prim.Native.Nat.{ℕ, zero, suc, _+_, _*_, _-_, _/_, _%_, _≤_, _<_}
 use mathlib.Core.Path.{_≡_, refl, sym, ap, ap₂, _∙_}
 use mathlib.Core.Bool.{Bool, true, false, _&&_, and-assoc}
-use mathlib.Core.List.{List, [], _∷_, _++_}
+use mathlib.Core.List.{List, [], _∷_, _++_, append-nil}
 use native.Mathlib.Nat.{add-zero}
 use native.Mathlib.Numerals.{add-one}
 use native.Mathlib.Omega.{arith}
 use borrow.Author.Tests.{eq-eqb, ne-eqb}
 use lib.Bits.{bitOr, bitAnd, or-add-and, and-le-l, and-le-r}
 use lib.Dec.{eqb}
-use lib.ListN.{length, drop, getD, set, length-set}
-use lib.Seq.{sets, sets-eq, drop-cons}
+use lib.ListN.{length, drop, getD, set, take-append-drop, drop-of-length-le}
+use lib.Seq.{sets, sets-eq, drop-cons, drop-drop}
 use Rattle.word.specs.Word.{part, le, wordAt, bytesOf, blank, allZero}
 use Rattle.word.specs.Write.{over}
+use Rattle.word.specs.Laws.{length-part, over-append}
 
 -- ---- a part, from its first byte on
 
@@ -24,6 +25,13 @@ part-turn l at k h = rw (drop-cons l at 0 h, add-one)
 pub word-one : (l : List ℕ) (at : ℕ) → at < length l → wordAt 1 l at ≡ getD l at 0
 unfolding le part
 word-one l at h = rw (drop-cons l at 0 h) (omega arith)
+
+-- what is left of it after i bytes
+pub part-left : (l : List ℕ) (at k i : ℕ) → i < k → at + k ≤ length l → part l (at + i) (k - i) ≡ getD l (at + i) 0 ∷ part l (at + (i + 1)) (k - (i + 1))
+part-left l at k i h f =
+    let e : k - i ≡ suc (k - (i + 1)) = omega arith in
+    let g : at + (i + 1) ≡ at + i + 1 = omega arith in
+    rw (e, g, part-turn l (at + i) (k - (i + 1)) (omega arith))
 
 -- one byte more, downwards
 pub word-turn : (l : List ℕ) (at k j : ℕ) → 0 < j → j ≤ k → at + k ≤ length l
@@ -39,9 +47,12 @@ word-turn l at k j p q h =
 unfoldable pub storing : List ℕ → ℕ → List ℕ → List ℕ
 storing l at vs = sets l at vs
 
-pub store-turn : (l : List ℕ) (at i v : ℕ) (vs : List ℕ) → storing (set l (at + i) v) (at + (i + 1)) vs ≡ storing l (at + i) (v ∷ vs)
+pub store-one : (l : List ℕ) (x v : ℕ) (vs : List ℕ) → storing (set l x v) (x + 1) vs ≡ storing l x (v ∷ vs)
 unfolding storing
-store-turn l at i v vs = let e : at + (i + 1) ≡ suc (at + i) = omega arith in rw e
+store-one l x v vs = rw add-one
+
+pub store-turn : (l : List ℕ) (at i v : ℕ) (vs : List ℕ) → storing (set l (at + i) v) (at + (i + 1)) vs ≡ storing l (at + i) (v ∷ vs)
+store-turn l at i v vs = let e : at + (i + 1) ≡ at + i + 1 = omega arith in rw e (store-one l (at + i) v vs)
 
 -- the bytes of a number, of a run of zeros and of a list that are left after i
 pub bytesOf-turn : (k i v : ℕ) → i < k → bytesOf (k - i) v ≡ v % 256 ∷ bytesOf (k - (i + 1)) (v / 256)
@@ -64,6 +75,23 @@ pub stored : (l : List ℕ) (at : ℕ) (vs : List ℕ) → at + length vs ≤ le
 unfolding storing over
 stored l at vs h = sets-eq vs l at h
 
+-- as many bytes as there are
+pub stored-whole : (l vs : List ℕ) → length vs ≡ length l → storing l 0 vs ≡ vs
+unfolding over
+stored-whole l vs h = stored l 0 vs (omega arith) ∙ rw (drop-of-length-le l {i = 0 + length vs} (omega arith)) (append-nil vs)
+
+-- ---- a loop over whole pieces: a piece of what is left, and the rest
+
+left : (vs : List ℕ) (i n : ℕ) → part vs i n ++ drop (i + n) vs ≡ drop i vs
+unfolding part
+left vs i n = rw (← drop-drop n i vs) (take-append-drop n (drop i vs))
+
+pub piece-turn : (l : List ℕ) (at i n : ℕ) (vs : List ℕ) → i + n ≤ length vs → at + length vs ≤ length l
+    → over (over l (at + i) (part vs i n)) (at + (i + n)) (drop (i + n) vs) ≡ over l (at + i) (drop i vs)
+piece-turn l at i n vs h f =
+    let e : at + (i + n) ≡ at + i + length (part vs i n) = omega (arith, length-part vs i n h) in
+    rw (e, over-append l (at + i) (part vs i n) (drop (i + n) vs) (omega arith), left vs i n)
+
 -- ---- the zero test: the bytes or-ed together are zero where each is
 
 or-zero : (a b : ℕ) → eqb (bitOr a b) 0 ≡ (eqb a 0 && eqb b 0)
@@ -74,7 +102,4 @@ or-zero (suc a) b =
 pub zero-turn : (l : List ℕ) (at k i acc : ℕ) → i < k → at + k ≤ length l
     → (eqb (bitOr acc (getD l (at + i) 0)) 0 && allZero (part l (at + (i + 1)) (k - (i + 1)))) ≡ (eqb acc 0 && allZero (part l (at + i) (k - i)))
 unfolding allZero
-zero-turn l at k i acc h f =
-    let e : k - i ≡ suc (k - (i + 1)) = omega arith in
-    let g : at + (i + 1) ≡ at + i + 1 = omega arith in
-    rw (e, g, part-turn l (at + i) (k - (i + 1)) (omega arith), or-zero) (and-assoc (eqb acc 0) (eqb (getD l (at + i) 0) 0) _)
+zero-turn l at k i acc h f = rw (part-left l at k i h f, or-zero) (and-assoc (eqb acc 0) (eqb (getD l (at + i) 0) 0) _)

@@ -5,16 +5,16 @@ use Prim.Native.Nat.{ℕ, zero, suc, _+_, _*_, _-_, _/_, _%_, _^_, _≤_, _<_, m
 use mathlib.Core.Path.{_≡_, refl, sym, ap, ap₂, _∙_}
 use mathlib.Core.Bool.{true}
 use mathlib.Core.Logic.{⊎-elim}
-use mathlib.Core.List.{List, [], _∷_, _++_, append-assoc}
-use native.Mathlib.Nat.{pow-suc, pow-zero, div-lt-iff-lt-mul, le-trans, pow-le-pow-right}
+use mathlib.Core.List.{List, [], _∷_, _++_, append-assoc, append-nil}
+use native.Mathlib.Nat.{add-zero, pow-suc, pow-zero, div-lt-iff-lt-mul, le-trans, pow-le-pow-right}
 use native.Mathlib.Omega.{arith}
 use borrow.Author.Tests.{eqb-true}
 use lib.Dec.{eqb, lit<}
-use lib.ListN.{length, take, drop, getD, length-append, length-take, length-drop, List·getD-append, List·getD-eq-default}
-use lib.Seq.{getD-take, getD-drop, getD-append-add, ext-getD, take-append-seam, drop-append-add, take-at, drop-at}
+use lib.ListN.{length, take, drop, getD, length-append, length-take, length-drop, take-append-drop, List·getD-append, List·getD-eq-default}
+use lib.Seq.{getD-take, getD-drop, getD-append-add, ext-getD, take-append-seam, drop-append-add, take-at, drop-at, drop-drop}
 use Rattle.plain.specs.Numbers.{lt-or-le}
 use Rattle.plain.specs.Tests.{both}
-use Rattle.word.specs.Word.{part, le, wordAt, bytesOf, blank, allZero, Bytes}
+use Rattle.word.specs.Word.{part, le, wordAt, bytesOf, Spelled, blank, allZero, Bytes}
 use Rattle.word.specs.Write.{over, Write, puts, Apart, Within, Spares, nth, Stays}
 
 -- ---- lengths
@@ -99,6 +99,25 @@ module _ (l : List ℕ) (at : ℕ) (vs : List ℕ) (h : at + length vs ≤ lengt
       rw (append-assoc, drop-at (take at l) (vs ++ drop (at + length vs) l) at (simp length-take (omega arith)))
       (take-append-seam vs (drop (at + length vs) l))
 
+-- to write nothing changes nothing
+pub over-nil : (l : List ℕ) (at : ℕ) → over l at [] ≡ l
+unfolding over
+over-nil l at = rw (append-nil, add-zero) (take-append-drop at l)
+
+-- two writes one after the other are one
+pub over-append : (l : List ℕ) (at : ℕ) (xs ys : List ℕ) → at ≤ length l → over (over l at xs) (at + length xs) ys ≡ over l at (xs ++ ys)
+unfolding over
+over-append l at xs ys h =
+    let n : length (take at l ++ xs) ≡ at + length xs = simp (length-append, length-take) (omega arith) in
+    let e : at + length xs + length ys ≡ length (take at l ++ xs) + length ys = omega arith in
+    let f : at + length (xs ++ ys) ≡ at + length xs + length ys = rw length-append (omega arith) in
+    rw (f, take-at (take at l ++ xs) (drop (at + length xs) l) (at + length xs) n)
+    (ap (λ r. take at l ++ xs ++ ys ++ r)
+    (ap (λ (x : ℕ). drop x (take at l ++ xs ++ drop (at + length xs) l)) e
+    ∙ drop-append-add (take at l ++ xs) (drop (at + length xs) l) (length ys)
+    ∙ drop-drop (length ys) (at + length xs) l)
+    ∙ ap (λ r. r ++ drop (at + length xs + length ys) l) (append-assoc (take at l) xs ys))
+
 -- ---- a list of writes
 
 pub length-puts : (ws : List Write) (l : List ℕ) → Within (length l) ws → length (puts l ws) ≡ length l
@@ -127,8 +146,8 @@ got (suc i) (w ∷ ws) l h s = got i ws (over l (w .at) (w .bytes)) (rw (length-
 
 -- ---- numbers
 
--- a number below 256 ^ k is spelled by k bytes, and read back
-pub le-bytesOf : (k v : ℕ) → v < 256 ^ k → le (bytesOf k v) ≡ v
+-- the bytes of a number spell it
+pub le-bytesOf : (k v : ℕ) → Spelled k v → le (bytesOf k v) ≡ v
 unfolding bytesOf le
 le-bytesOf zero v h = omega (arith, rw pow-zero at h)
 le-bytesOf (suc k) v h =
@@ -145,8 +164,8 @@ bytesOf-le (b ∷ bs) h =
     let d : (b + 256 * le bs) / 256 ≡ le bs = omega arith in
     rw (m, d) (ap (λ r. b ∷ r) (bytesOf-le bs (λ i. h (suc i))))
 
--- k bytes spell a number below 256 ^ k
-pub le-bound : (bs : List ℕ) → Bytes bs → le bs < 256 ^ length bs
+-- k bytes spell a number that k bytes can spell
+pub le-bound : (bs : List ℕ) → Bytes bs → Spelled (length bs) (le bs)
 unfolding le
 le-bound [] h = rw pow-zero (omega arith)
 le-bound (b ∷ bs) h = rw pow-suc (omega (arith, h 0, le-bound bs (λ i. h (suc i))))
@@ -158,15 +177,15 @@ bytes-part l at k h i =
     (λ (p : k ≤ i). rw (List·getD-eq-default (part l at k) 0 {n = i} (omega (arith, length-part-any l at k))) (omega arith))
     (lt-or-le i k)
 
-pub word-bound : (k : ℕ) (l : List ℕ) (at : ℕ) → Bytes l → wordAt k l at < 256 ^ k
+pub word-bound : (k : ℕ) (l : List ℕ) (at : ℕ) → Bytes l → Spelled k (wordAt k l at)
 word-bound k l at h =
     le-trans (le-bound (part l at k) (bytes-part l at k h)) (pow-le-pow-right (lit< tt) (omega (arith, length-part-any l at k)))
 
-pub word-below : (m k : ℕ) (l : List ℕ) (at : ℕ) → Bytes l → k ≤ m → wordAt k l at < 256 ^ m
+pub word-below : (m k : ℕ) (l : List ℕ) (at : ℕ) → Bytes l → k ≤ m → Spelled m (wordAt k l at)
 word-below m k l at h b = le-trans (word-bound k l at h) (pow-le-pow-right (lit< tt) b)
 
 -- a number that is written reads back, at its own place
-pub word-same : (k : ℕ) (l : List ℕ) (at v : ℕ) → at + k ≤ length l → v < 256 ^ k → wordAt k (over l at (bytesOf k v)) at ≡ v
+pub word-same : (k : ℕ) (l : List ℕ) (at v : ℕ) → at + k ≤ length l → Spelled k v → wordAt k (over l at (bytesOf k v)) at ≡ v
 word-same k l at v h b =
     ap le (rw length-bytesOf at (same l at (bytesOf k v) (rw length-bytesOf h))) ∙ le-bytesOf k v b
 

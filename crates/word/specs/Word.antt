@@ -1,5 +1,5 @@
 -- Runs of bytes in a list of bytes, and the numbers that they spell, lowest byte first. Each is over the width k, in bytes.
-use Prim.Native.Nat.{ℕ, zero, suc, _+_, _*_, _/_, _%_, _<_}
+use Prim.Native.Nat.{ℕ, zero, suc, _+_, _*_, _/_, _%_, _^_, _<_}
 use mathlib.Core.Bool.{Bool, true, _&&_}
 use mathlib.Core.List.{List, [], _∷_}
 use lib.Dec.{eqb}
@@ -22,6 +22,10 @@ wordAt k l at = le (part l at k)
 unfoldable pub bytesOf : ℕ → ℕ → List ℕ
 bytesOf zero v = []
 bytesOf (suc k) v = v % 256 ∷ bytesOf k (v / 256)
+
+-- k bytes can spell v
+abbrev pub Spelled : ℕ → ℕ → Type 0
+Spelled k v = v < 256 ^ k
 
 -- k zero bytes
 unfoldable pub blank : ℕ → List ℕ

@@ -88,8 +88,8 @@ pub fn clear(s: &mut [u8], at: usize, k: usize)
     }
 }
 
-// Copies all of src to a place.
-pub fn paste(s: &mut [u8], at: usize, src: &[u8])
+// Copies all of src to a place, byte by byte.
+fn paste_bytes(s: &mut [u8], at: usize, src: &[u8])
     requires { ⌜ at + length (now src) ≤ length (now s) ⌝ }
     ensures { λ _. ⌜ now (s .exit) ≡ over (now (s .entry)) at (now (src .entry)) ⌝ }
 {
@@ -98,6 +98,44 @@ pub fn paste(s: &mut [u8], at: usize, src: &[u8])
         s[at + i] = src[i];
         i += 1;
     }
+}
+
+// A disk block of bytes from a place, by value.
+fn piece(src: &[u8], from: usize) -> [u8; 512]
+    requires { ⌜ from + 512 ≤ length (now src) ⌝ }
+    ensures { λ r. ⌜ r ≡ part (now (src .entry)) from 512 ⌝ }
+{
+    let mut block = [0u8; 512];
+    let mut i: usize = 0;
+    while i < 512 {
+        block[i] = src[from + i];
+        i += 1;
+    }
+    block
+}
+
+fn put_piece(s: &mut [u8], at: usize, block: [u8; 512])
+    requires { ⌜ at + 512 ≤ length (now s) ⌝ }
+    ensures { λ _. ⌜ now (s .exit) ≡ over (now (s .entry)) at block ⌝ }
+{
+    let mut i: usize = 0;
+    while i < 512 {
+        s[at + i] = block[i];
+        i += 1;
+    }
+}
+
+// Copies all of src to a place. Whole disk blocks go by value, which becomes one memmove each: s and src are not known to be apart.
+pub fn paste(s: &mut [u8], at: usize, src: &[u8])
+    requires { ⌜ at + length (now src) ≤ length (now s) ⌝ }
+    ensures { λ _. ⌜ now (s .exit) ≡ over (now (s .entry)) at (now (src .entry)) ⌝ }
+{
+    let mut i: usize = 0;
+    while 512 <= src.len() - i {
+        put_piece(s, at + i, piece(src, i));
+        i += 512;
+    }
+    paste_bytes(s, at + i, &src[i..])
 }
 
 // Whether the k bytes from a place are all zero. All are looked at: a loop that stops early does not vectorize.

@@ -1,0 +1,163 @@
+-- What a reader wants to know of a run: which numbers are picked and how often, how far a visit goes and why it stops, and that a run
+-- is what its two parts are.
+-- Assumes nothing.
+use Prim.Native.Nat.{ℕ, zero, suc, _+_, _-_, _*_, _≤_, _<_}
+use mathlib.Core.Path.{_≡_, refl, sym, ap, _∙_}
+use mathlib.Core.Bool.{Bool, true, false, cond, _&&_}
+use mathlib.Core.List.{List, [], _∷_, _++_, append-nil, append-assoc}
+use mathlib.Core.Logic.{_⊎_, inl, inr, ⊎-elim}
+use native.Mathlib.Nat.{not-suc-le-zero, eq-or-lt-of-le}
+use native.Mathlib.Omega.{arith}
+use borrow.Author.Tests.{eq-eqb, ne-eqb}
+use lib.Dec.{eqb}
+use lib.ListN.{length, length-append}
+use Rattle.plain.specs.Tests.{both}
+use Rattle.run.specs.Run.{one, just, picked, allOf, visits, rows, each, times}
+
+pub times-append : (x : ℕ) (bs cs : List ℕ) → times x (bs ++ cs) ≡ times x bs + times x cs
+unfolding times
+times-append x [] cs = omega arith
+times-append x (b ∷ bs) cs = omega (arith, times-append x bs cs)
+
+module _ (p : ℕ → Bool) where
+  -- ---- one number
+
+  pub one-yes : (b : ℕ) → p b ≡ true → one p b ≡ 1
+  unfolding one
+  one-yes b e = rw e
+
+  pub one-no : (b : ℕ) → p b ≡ false → one p b ≡ 0
+  unfolding one
+  one-no b e = rw e
+
+  pub just-yes : (b : ℕ) → p b ≡ true → just p b ≡ b ∷ []
+  unfolding just
+  just-yes b e = rw e
+
+  pub just-no : (b : ℕ) → p b ≡ false → just p b ≡ []
+  unfolding just
+  just-no b e = rw e
+
+  -- the two go together: either both are there or neither
+  count-of : (t : Bool) (b : ℕ) → (length (cond t (b ∷ []) []) ≡ cond t 1 0) × (cond t 1 0 ≤ 1)
+  count-of true b = (refl, omega arith)
+  count-of false b = (refl, omega arith)
+
+  pub one-le : (b : ℕ) → one p b ≤ 1
+  unfolding one
+  one-le b = count-of (p b) b .1
+
+  pub length-just : (b : ℕ) → length (just p b) ≡ one p b
+  unfolding just one
+  length-just b = count-of (p b) b .0
+
+  -- ---- how far a visit goes: at most `most`, and somewhere if it may
+
+  pub visits-le : (most wanted b : ℕ) → visits p most wanted b ≤ most
+  unfolding visits
+  visits-le zero wanted b = omega arith
+  visits-le (suc most) zero b = omega arith
+  visits-le (suc most) (suc wanted) b = omega (arith, visits-le most (suc wanted - one p b) (b + 1))
+
+  pub visits-pos : (most wanted b : ℕ) → 0 < most → 0 < wanted → 0 < visits p most wanted b
+  unfolding visits
+  visits-pos zero wanted b h k = absurd (not-suc-le-zero h)
+  visits-pos (suc most) zero b h k = absurd (not-suc-le-zero k)
+  visits-pos (suc most) (suc wanted) b h k = omega arith
+
+  -- it picks no more than wanted
+  pub picked-le : (most wanted b : ℕ) → length (picked p b (visits p most wanted b)) ≤ wanted
+  unfolding visits picked
+  picked-le zero wanted b = omega arith
+  picked-le (suc most) zero b = omega arith
+  picked-le (suc most) (suc wanted) b =
+      rw length-append (omega (arith, one-le b, length-just b, picked-le most (suc wanted - one p b) (b + 1)))
+
+  -- it stops for one of two reasons: no more may be visited, or as many as wanted have passed
+  pub visits-why : (most wanted b : ℕ) → (visits p most wanted b ≡ most) ⊎ (length (picked p b (visits p most wanted b)) ≡ wanted)
+  unfolding visits picked
+  visits-why zero wanted b = inl refl
+  visits-why (suc most) zero b = inr refl
+  visits-why (suc most) (suc wanted) b =
+      ⊎-elim (λ e. inl (ap suc e)) (λ e. inr (rw length-append (omega (arith, one-le b, length-just b, e))))
+      (visits-why most (suc wanted - one p b) (b + 1))
+
+  -- and not before: at each number visited, fewer than wanted have passed
+  pub visits-first : (most wanted b k : ℕ) → k < visits p most wanted b → length (picked p b k) < wanted
+  unfolding visits picked
+  visits-first zero wanted b k h = absurd (not-suc-le-zero h)
+  visits-first (suc most) zero b k h = absurd (not-suc-le-zero h)
+  visits-first (suc most) (suc wanted) b zero h = omega arith
+  visits-first (suc most) (suc wanted) b (suc k) h =
+      rw length-append (omega (arith, one-le b, length-just b, visits-first most (suc wanted - one p b) (b + 1) k (omega arith)))
+
+  -- ---- what is picked: each number of the run that passes, once, and nothing else
+
+  times-just-same : (b : ℕ) → times b (just p b) ≡ one p b
+  unfolding just one times
+  times-just-same b = go (p b)
+    where
+      go : (t : Bool) → times b (cond t (b ∷ []) []) ≡ cond t 1 0
+      go true = rw (eq-eqb b b refl)
+      go false = refl
+
+  times-just-other : (b x : ℕ) → (x ≡ b → ⊥) → times x (just p b) ≡ 0
+  unfolding just times
+  times-just-other b x d = go (p b)
+    where
+      go : (t : Bool) → times x (cond t (b ∷ []) []) ≡ 0
+      go true = rw (ne-eqb x b d)
+      go false = refl
+
+  pub picked-none-below : (b k x : ℕ) → x < b → times x (picked p b k) ≡ 0
+  unfolding picked times
+  picked-none-below b zero x h = refl
+  picked-none-below b (suc k) x h =
+      times-append x (just p b) (picked p (b + 1) k)
+      ∙ omega (arith, times-just-other b x (λ e. omega arith), picked-none-below (b + 1) k x (omega arith))
+
+  pub picked-none-above : (b k x : ℕ) → b + k ≤ x → times x (picked p b k) ≡ 0
+  unfolding picked times
+  picked-none-above b zero x h = refl
+  picked-none-above b (suc k) x h =
+      times-append x (just p b) (picked p (b + 1) k)
+      ∙ omega (arith, times-just-other b x (λ e. omega arith), picked-none-above (b + 1) k x (omega arith))
+
+  pub picked-once : (b k x : ℕ) → b ≤ x → x < b + k → times x (picked p b k) ≡ one p x
+  unfolding picked
+  picked-once b zero x l h = absurd (omega arith)
+  picked-once b (suc k) x l h =
+      times-append x (just p b) (picked p (b + 1) k)
+      ∙ ⊎-elim
+      (λ (e : b ≡ x). rw (← e, times-just-same b, picked-none-below (b + 1) k b (omega arith)) (omega arith))
+      (λ (e : b < x). rw (times-just-other b x (λ q. omega arith), picked-once (b + 1) k x (omega arith) (omega arith)) (omega arith))
+      (eq-or-lt-of-le l)
+
+  pub picked-few : (b k : ℕ) → length (picked p b k) ≤ k
+  unfolding picked
+  picked-few b zero = omega arith
+  picked-few b (suc k) = rw length-append (omega (arith, one-le b, length-just b, picked-few (b + 1) k))
+
+  -- ---- a run is what its two parts are
+
+  pub picked-append : (b k m : ℕ) → picked p b (k + m) ≡ picked p b k ++ picked p (b + k) m
+  unfolding picked
+  picked-append b zero m = let e : zero + m ≡ m = omega arith in let z : b + zero ≡ b = omega arith in rw (e, z)
+  picked-append b (suc k) m =
+      let e : suc k + m ≡ suc (k + m) = omega arith in
+      let z : b + suc k ≡ b + 1 + k = omega arith in
+      rw (e, z, append-assoc) (ap (λ r. just p b ++ r) (picked-append (b + 1) k m))
+
+  -- ---- all pass, where each does
+
+  pub all-each : (b k x : ℕ) → allOf p b k ≡ true → b ≤ x → x < b + k → p x ≡ true
+  unfolding allOf
+  all-each b zero x e l h = absurd (omega arith)
+  all-each b (suc k) x e l h =
+      let w = both (p b) (allOf p (b + 1) k) e in
+      ⊎-elim (λ (q : b ≡ x). ap p (sym q) ∙ w .0) (λ (q : b < x). all-each (b + 1) k x (w .1) (omega arith) (omega arith)) (eq-or-lt-of-le l)
+
+  pub each-all : (b k : ℕ) → ((x : ℕ) → b ≤ x → x < b + k → p x ≡ true) → allOf p b k ≡ true
+  unfolding allOf
+  each-all b zero h = refl
+  each-all b (suc k) h = rw (h b (omega arith) (omega arith), each-all (b + 1) k (λ x l u. h x (omega arith) (omega arith)))

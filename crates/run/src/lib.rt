@@ -1,0 +1,1 @@
+// Runs of block numbers under a test: definitions and laws. No function.
