@@ -1,18 +1,17 @@
 -- What a reader wants to know of a run: which numbers are picked and how often, how far a visit goes and why it stops, and that a run
 -- is what its two parts are.
 -- Assumes nothing.
-use Prim.Native.Nat.{ℕ, zero, suc, _+_, _-_, _*_, _≤_, _<_}
+use Prim.Native.Nat.{ℕ, zero, suc, _+_, _-_, _≤_, _<_}
 use mathlib.Core.Path.{_≡_, refl, sym, ap, _∙_}
-use mathlib.Core.Bool.{Bool, true, false, cond, _&&_}
-use mathlib.Core.List.{List, [], _∷_, _++_, append-nil, append-assoc}
+use mathlib.Core.Bool.{Bool, true, false, cond}
+use mathlib.Core.List.{List, [], _∷_, _++_, append-assoc}
 use mathlib.Core.Logic.{_⊎_, inl, inr, ⊎-elim}
 use native.Mathlib.Nat.{not-suc-le-zero, eq-or-lt-of-le}
 use native.Mathlib.Omega.{arith}
 use borrow.Author.Tests.{eq-eqb, ne-eqb}
-use lib.Dec.{eqb}
 use lib.ListN.{length, length-append}
 use Rattle.plain.specs.Tests.{both}
-use Rattle.run.specs.Run.{one, just, picked, allOf, visits, rows, each, times}
+use Rattle.run.specs.Run.{one, just, picked, allOf, visits, times}
 
 pub times-append : (x : ℕ) (bs cs : List ℕ) → times x (bs ++ cs) ≡ times x bs + times x cs
 unfolding times

@@ -1,9 +1,9 @@
 -- Laws of the charges: each is one difference of two naturals, and none leaves the range of Money.
 -- Assumes nothing.
-use mathlib.Core.Path.{_≡_, refl, sym, _∙_, ap}
+use mathlib.Core.Path.{_≡_, _∙_}
 use Prim.Native.Nat.{ℕ, _+_, _*_, _^_, _<_}
 use native.Mathlib.Omega.{arith}
-use lib.IntN.{ℤ, pos, negsuc, _+ℤ_, _-ℤ_, _*ℤ_}
+use lib.IntN.{ℤ, pos, negsuc}
 use lib.Signed.{mag}
 use Rattle.plain.specs.Numbers.{product}
 use Rattle.tariff.specs.Charges.{T, createCharge, destroyCharge, replaceCharge, setExpiryCharge}

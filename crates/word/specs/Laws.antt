@@ -2,7 +2,7 @@
 -- another, and what is read after a write, at the same place and at another.
 -- Assumes nothing.
 use Prim.Native.Nat.{ℕ, zero, suc, _+_, _*_, _-_, _/_, _%_, _^_, _≤_, _<_, min}
-use mathlib.Core.Path.{_≡_, refl, sym, ap, ap₂, _∙_}
+use mathlib.Core.Path.{_≡_, refl, ap, ap₂, _∙_}
 use mathlib.Core.Bool.{true}
 use mathlib.Core.Logic.{⊎-elim}
 use mathlib.Core.List.{List, [], _∷_, _++_, append-assoc, append-nil}
@@ -26,7 +26,7 @@ length-part l at k h = simp (length-take, length-drop) (omega arith)
 pub length-bytesOf : (k v : ℕ) → length (bytesOf k v) ≡ k
 unfolding bytesOf
 length-bytesOf zero v = refl
-length-bytesOf (suc k) v = ap suc (length-bytesOf k (v / 256))
+length-bytesOf (suc k) v = ap suc (length-bytesOf k _)
 
 pub length-blank : (k : ℕ) → length (blank k) ≡ k
 unfolding blank

@@ -1,12 +1,12 @@
 -- `word::piece` meets its contract. The invariant: the bytes that are left, stored into what there is, give what is to be.
 -- Assumes nothing.
 use Prim.Native.Nat.{_+_, _-_, _≤_}
-use mathlib.Core.Path.{_≡_, refl, sym, _∙_}
+use mathlib.Core.Path.{_≡_, _∙_}
 use native.Mathlib.Nat.{add-zero}
 use native.Mathlib.Omega.{arith}
 use borrow.Author.Needs.{needs}
 use denote.Ref.{now}
-use lib.ListN.{length, replicate, length-set}
+use lib.ListN.{length, length-set}
 use Rattle.word.specs.Word.{part}
 use Rattle.word.specs.Laws.{length-part}
 use Rattle.word.proofs.Turns.{storing, store-one, store-end, part-left, stored-whole}

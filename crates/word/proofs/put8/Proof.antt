@@ -1,6 +1,5 @@
 -- `word::put8` meets its contract: one byte is spelled by itself.
 -- Assumes nothing.
-use mathlib.Core.Path.{_∙_, refl}
 use mathlib.Core.List.{[], _∷_}
 use native.Mathlib.Nat.{mod-eq-of-lt}
 use native.Mathlib.Omega.{arith}
