@@ -116,3 +116,11 @@ pub struct ProfileAnswer {
     pub key: u32,
     pub entries: u32,
 }
+
+// A walk over a client's ids, kept by its caller: how many ids a step may name, the key to go on with, and whether the end key came.
+pub struct Walk {
+    pub client: User,
+    pub count: u32,
+    pub key: u32,
+    pub ended: bool,
+}

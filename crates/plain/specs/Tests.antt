@@ -1,9 +1,23 @@
--- Tests taken apart, and the set of laws that turns the tests on a function's way to a return into the cases of a definition.
+-- Choices and lists of tests, tests taken apart, and the set of laws that turns the tests on a function's way to a return into the
+-- cases of a definition.
 -- Assumes nothing.
+use Prim.Native.Nat.{ℕ, zero, suc}
 use mathlib.Core.Path.{_≡_, refl}
 use mathlib.Core.Bool.{Bool, true, false, _&&_}
+use mathlib.Core.List.{List, [], _∷_}
 use mathlib.Core.Logic.{_⊎_, inl, inr}
 use borrow.Author.Tests.{lt-ltb, le-ltb, le-leb, lt-leb, eq-eqb, ne-eqb}
+use lib.ListN.{getD}
+
+-- one of two, by a test
+abbrev pub when {ℓ} : {A : Type ℓ} → Bool → A → A → A
+when true a b = a
+when false a b = b
+
+-- every test of a list passes
+unfoldable pub all : List Bool → Bool
+all [] = true
+all (t ∷ ts) = t && all ts
 
 pub ruleset cascade = (lt-ltb, le-ltb, le-leb, lt-leb, eq-eqb, ne-eqb)
 
@@ -15,3 +29,10 @@ decide false = inr refl
 pub both : (s t : Bool) → (s && t) ≡ true → (s ≡ true) × (t ≡ true)
 both true t e = (refl, e)
 both false t e = (e, cc)
+
+-- test i of a list whose every test passes
+pub nth : (ts : List Bool) (i : ℕ) → all ts ≡ true → getD ts i true ≡ true
+unfolding all
+nth [] i e = refl
+nth (t ∷ ts) zero e = both t (all ts) e .0
+nth (t ∷ ts) (suc i) e = nth ts i (both t (all ts) e .1)

@@ -10,7 +10,7 @@ use lib.ListN.{length, length-append}
 use Rattle.plain.specs.Tests.{both}
 use Rattle.word.specs.Write.{over}
 use Rattle.word.specs.Laws.{over-nil, over-append}
-use Rattle.run.specs.Run.{one, just, picked, allOf, visits, rows, each}
+use Rattle.run.specs.Run.{one, just, picked, allOf, first, visits, rows, each}
 use Rattle.run.specs.Laws.{just-yes, just-no, length-just}
 
 less : (m : ℕ) → suc m - 1 ≡ m
@@ -35,6 +35,23 @@ module _ (p : ℕ → Bool) where
   visits-full zero wanted b h = refl
   visits-full (suc most) zero b h = refl
   visits-full (suc most) (suc wanted) b h = absurd (not-suc-le-zero h)
+
+  -- ---- the first
+
+  pub first-here : (b k : ℕ) → 0 < k → p b ≡ true → first p b k ≡ b
+  unfolding first
+  first-here b zero h e = absurd (not-suc-le-zero h)
+  first-here b (suc k) h e = rw e
+
+  pub first-turn : (b k : ℕ) → 0 < k → p b ≡ false → first p (b + 1) (k - 1) ≡ first p b k
+  unfolding first
+  first-turn b zero h e = absurd (not-suc-le-zero h)
+  first-turn b (suc k) h e = rw (less, e)
+
+  pub first-end : (b k : ℕ) → k ≤ 0 → first p b k ≡ b
+  unfolding first
+  first-end b zero h = refl
+  first-end b (suc k) h = absurd (not-suc-le-zero h)
 
   -- ---- all pass
 

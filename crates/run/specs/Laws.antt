@@ -11,7 +11,7 @@ use native.Mathlib.Omega.{arith}
 use borrow.Author.Tests.{eq-eqb, ne-eqb}
 use lib.ListN.{length, length-append}
 use Rattle.plain.specs.Tests.{both}
-use Rattle.run.specs.Run.{one, just, picked, allOf, visits, times}
+use Rattle.run.specs.Run.{one, just, picked, allOf, first, visits, times}
 
 pub times-append : (x : ℕ) (bs cs : List ℕ) → times x (bs ++ cs) ≡ times x bs + times x cs
 unfolding times
@@ -49,6 +49,37 @@ module _ (p : ℕ → Bool) where
   pub length-just : (b : ℕ) → length (just p b) ≡ one p b
   unfolding just one
   length-just b = count-of (p b) b .0
+
+  -- ---- the first: it lies in the run or right after it; within the run it passes; and nothing below it does
+
+  pub first-le : (b k : ℕ) → (b ≤ first p b k) × (first p b k ≤ b + k)
+  unfolding first
+  first-le b zero = omega arith
+  first-le b (suc k) = go (first-le (b + 1) k) (p b)
+    where
+      go : (b + 1 ≤ first p (b + 1) k) × (first p (b + 1) k ≤ b + 1 + k)
+          → (t : Bool) → (b ≤ cond t b (first p (b + 1) k)) × (cond t b (first p (b + 1) k) ≤ b + suc k)
+      go r true = omega arith
+      go r false = omega arith
+
+  pub first-passes : (b k : ℕ) → first p b k < b + k → p (first p b k) ≡ true
+  unfolding first
+  first-passes b zero h = absurd (omega arith)
+  first-passes b (suc k) h = go (first-passes (b + 1) k) (p b) refl h
+    where
+      go : (first p (b + 1) k < b + 1 + k → p (first p (b + 1) k) ≡ true)
+          → (t : Bool) → p b ≡ t → cond t b (first p (b + 1) k) < b + suc k → p (cond t b (first p (b + 1) k)) ≡ true
+      go r true e h = e
+      go r false e h = r (omega arith)
+
+  pub first-lowest : (b k x : ℕ) → b ≤ x → x < first p b k → p x ≡ false
+  unfolding first
+  first-lowest b zero x l h = absurd (omega arith)
+  first-lowest b (suc k) x l h = go (first-lowest (b + 1) k x) (p b) refl h
+    where
+      go : (b + 1 ≤ x → x < first p (b + 1) k → p x ≡ false) → (t : Bool) → p b ≡ t → x < cond t b (first p (b + 1) k) → p x ≡ false
+      go r true e h = absurd (omega arith)
+      go r false e h = ⊎-elim (λ (q : b ≡ x). ap p (sym q) ∙ e) (λ (q : b < x). r (omega arith) h) (eq-or-lt-of-le l)
 
   -- ---- how far a visit goes: at most `most`, and somewhere if it may
 

@@ -21,6 +21,11 @@ unfoldable pub allOf : (ℕ → Bool) → (b k : ℕ) → Bool
 allOf p b zero = true
 allOf p b (suc k) = p b && allOf p (b + 1) k
 
+-- the lowest of the run that passes; the number after the run where none does
+unfoldable pub first : (ℕ → Bool) → (b k : ℕ) → ℕ
+first p b zero = b
+first p b (suc k) = cond (p b) b (first p (b + 1) k)
+
 -- how many numbers are visited from b upward: at most `most`, and none after the wanted count has passed
 unfoldable pub visits : (ℕ → Bool) → (most wanted b : ℕ) → ℕ
 visits p zero wanted b = 0
