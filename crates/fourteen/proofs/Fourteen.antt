@@ -10,7 +10,7 @@ use Rattle.tariff.specs.Charges.{T, createCharge, destroyCharge, replaceCharge,
 use Rattle.run.specs.Run.{one, just, picked, allOf, first, visits, rows, each, times}
 use Rattle.promise.specs.Layout.{numberRight}
 use Rattle.promise.specs.Trailer.{nOf, clockOf, rightTrailer, trailerRight, trailerBytes}
-use Rattle.promise.specs.Header.{headerOf, headerBytes, usedRight, goodHeader}
+use Rattle.promise.specs.Header.{headerOf, laterOf, headerBytes, usedRight, goodHeader}
 use Rattle.promise.specs.Map.{free, spareZero, good}
 use Rattle.promise.specs.Counts.{countOf, ownedBy, owners, owned, dataOf}
 use Rattle.promise.specs.Sound.{soundImage}
@@ -32,7 +32,7 @@ use Rattle.fourteen.specs.Table.{prices, fourteenCalls}
 use Rattle.fourteen.proofs.Tests.{sameZ, sameList, sameKey, agrees, asListed, listed}
 
 tested : asListed prices (freshImage 8) fourteenCalls ≡ true
-unfolding all part le bytesOf blank allZero over puts roundOf unroundOf rounds unrounds disguised undone idOf shapedIn T createCharge destroyCharge replaceCharge setExpiryCharge one just picked allOf first visits rows each times numberRight nOf clockOf rightTrailer trailerRight trailerBytes headerOf headerBytes usedRight goodHeader free spareZero good countOf ownedBy owners owned dataOf soundImage freshImage lowest badNow badCount lookupDamaged noSuchBlock notOwner lowestFree createDamaged createRows createReport createWrites createImage createAnswer readRows readReport readAnswer readBuffer destroyDamaged destroyRows destroyReport destroyWrites destroyImage destroyAnswer replaceRows replaceReport replaceWrites replaceImage replaceAnswer setExpiryRows setExpiryReport setExpiryWrites setExpiryImage setExpiryAnswer keyAt idsVisited idsNamed idRow getIdsRows getIdsReport getIdsAnswer getIdsBuffer getCountRows getCountReport getCountAnswer expired gone goneOf scavengeDamaged scavengeRows scavengeReport scavenged scavengeImage scavengeAnswer outcome sameZ sameList sameKey agrees asListed
+unfolding all part le bytesOf blank allZero over puts roundOf unroundOf rounds unrounds disguised undone idOf shapedIn T createCharge destroyCharge replaceCharge setExpiryCharge one just picked allOf first visits rows each times numberRight nOf clockOf rightTrailer trailerRight trailerBytes headerOf laterOf headerBytes usedRight goodHeader free spareZero good countOf ownedBy owners owned dataOf soundImage freshImage lowest badNow badCount lookupDamaged noSuchBlock notOwner lowestFree createDamaged createRows createReport createWrites createImage createAnswer readRows readReport readAnswer readBuffer destroyDamaged destroyRows destroyReport destroyWrites destroyImage destroyAnswer replaceRows replaceReport replaceWrites replaceImage replaceAnswer setExpiryRows setExpiryReport setExpiryWrites setExpiryImage setExpiryAnswer keyAt idsVisited idsNamed idRow getIdsRows getIdsReport getIdsAnswer getIdsBuffer getCountRows getCountReport getCountAnswer expired gone goneOf scavengeDamaged scavengeRows scavengeReport scavenged scavengeImage scavengeAnswer outcome sameZ sameList sameKey agrees asListed
 tested = refl
 
 pub fourteen : AsListed prices (freshImage 8) fourteenCalls

@@ -36,3 +36,12 @@ unfolding all
 nth [] i e = refl
 nth (t ∷ ts) zero e = both t (all ts) e .0
 nth (t ∷ ts) (suc i) e = nth ts i (both t (all ts) e .1)
+
+-- one test more of a list whose every test passes
+pub also : (t : Bool) (ts : List Bool) → t ≡ true → all ts ≡ true → all (t ∷ ts) ≡ true
+unfolding all
+also t ts e f = rw (e, f)
+
+pub done : all [] ≡ true
+unfolding all
+done = refl

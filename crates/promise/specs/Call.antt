@@ -6,16 +6,17 @@ use lib.IntN.{ℤ}
 use Rattle.kinds.specs.declared.Receipt.{Receipt}
 use Rattle.kinds.specs.declared.Report.{Report}
 use Rattle.tariff.specs.declared.Tariff.{Tariff}
-use Rattle.promise.specs.Create.{createAnswer, createImage}
-use Rattle.promise.specs.Read.{readAnswer, readBuffer}
-use Rattle.promise.specs.Status.{statusAnswer}
-use Rattle.promise.specs.Destroy.{destroyAnswer, destroyImage}
-use Rattle.promise.specs.Replace.{replaceAnswer, replaceImage}
-use Rattle.promise.specs.SetExpiry.{setExpiryAnswer, setExpiryImage}
-use Rattle.promise.specs.GetIds.{getIdsAnswer, getIdsBuffer}
-use Rattle.promise.specs.GetCount.{getCountAnswer}
-use Rattle.promise.specs.Scavenge.{scavengeAnswer, scavengeImage}
-use Rattle.promise.specs.Profile.{profileAnswer, profileBuffer}
+use Rattle.promise.specs.Refusals.{Row}
+use Rattle.promise.specs.Create.{createRows, createAnswer, createImage}
+use Rattle.promise.specs.Read.{readRows, readAnswer, readBuffer}
+use Rattle.promise.specs.Status.{statusRows, statusAnswer}
+use Rattle.promise.specs.Destroy.{destroyRows, destroyAnswer, destroyImage}
+use Rattle.promise.specs.Replace.{replaceRows, replaceAnswer, replaceImage}
+use Rattle.promise.specs.SetExpiry.{setExpiryRows, setExpiryAnswer, setExpiryImage}
+use Rattle.promise.specs.GetIds.{getIdsRows, getIdsAnswer, getIdsBuffer}
+use Rattle.promise.specs.GetCount.{getCountRows, getCountAnswer}
+use Rattle.promise.specs.Scavenge.{scavengeRows, scavengeAnswer, scavengeImage}
+use Rattle.promise.specs.Profile.{profileRows, profileAnswer, profileBuffer}
 
 -- inputs stand in PRG-62's order, the time last
 pub data Call : Type 0 where
@@ -54,6 +55,19 @@ keyReceived (GetIds client key count ids) = some key
 keyReceived (GetCount client) = none
 keyReceived (Scavenge client key time) = some key
 keyReceived (Profile client key buffer) = some key
+
+-- the rows of the table that a call can be refused by, in the order they are tested
+unfoldable pub rowsOf : Call → List ℕ → List Row
+rowsOf (Create client expiry bytes time) img = createRows img client expiry bytes time
+rowsOf (Read client id buffer) img = readRows img client id buffer
+rowsOf (Status client id) img = statusRows img client id
+rowsOf (Destroy client id time) img = destroyRows img client id time
+rowsOf (Replace client id bytes time) img = replaceRows img client id bytes time
+rowsOf (SetExpiry client id expiry time) img = setExpiryRows img client id expiry time
+rowsOf (GetIds client key count ids) img = getIdsRows img client key count ids
+rowsOf (GetCount client) img = getCountRows img client
+rowsOf (Scavenge client key time) img = scavengeRows img client key time
+rowsOf (Profile client key buffer) img = profileRows img client key buffer
 
 -- report and charge; the results in PRG-62's order but for a key; the key that a key call gives; the image and the buffer after
 pub record Outcome : Type 0 where

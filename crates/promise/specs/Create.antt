@@ -1,6 +1,6 @@
 -- Document 01, Create: it takes the lowest free block. Owner is the client, created is now, expires is the later of now and the asked
 -- expiry.
-use Prim.Native.Nat.{ℕ, _+_, max}
+use Prim.Native.Nat.{ℕ, _+_}
 use mathlib.Core.Path.{_≡_}
 use mathlib.Core.Bool.{Bool, not, _&&_, _||_}
 use mathlib.Core.List.{List, [], _∷_}
@@ -18,7 +18,7 @@ use Rattle.tariff.specs.declared.Tariff.{Tariff}
 use Rattle.run.specs.Run.{first}
 use Rattle.promise.specs.Layout.{headerAt, dataAt}
 use Rattle.promise.specs.Trailer.{nOf, clockSet}
-use Rattle.promise.specs.Header.{headerBytes}
+use Rattle.promise.specs.Header.{laterOf, headerBytes}
 use Rattle.promise.specs.Map.{free, good, bitTaken}
 use Rattle.promise.specs.Counts.{countOf, countSet}
 use Rattle.promise.specs.Refusals.{Row, row, lowest, succeeds, badImage, badUser, badNow, badExpiry, notLater, notABlock, receipt, refusal}
@@ -57,7 +57,7 @@ createWrites img client expiry bytes time =
     let b : ℕ = lowestFree img in
     clockSet n time
     ∷ record { at = dataAt n b; bytes = part bytes 16 512 }
-    ∷ record { at = headerAt b; bytes = headerBytes client (idOf time b) time (max time expiry) (part bytes 0 16) }
+    ∷ record { at = headerAt b; bytes = headerBytes client (idOf time b) time (laterOf time expiry) (part bytes 0 16) }
     ∷ bitTaken n img b
     ∷ countSet n client (countOf n img client + 1)
     ∷ []
@@ -70,7 +70,7 @@ unfoldable pub createAnswer : Tariff → List ℕ → (client expiry : ℕ) → 
 createAnswer t img client expiry bytes time =
     let r : Report = createReport img client expiry bytes time in
     when (succeeds r)
-    (record { receipt = receipt Success (createCharge t time (max time expiry)); id = ident (idOf time (lowestFree img)) })
+    (record { receipt = receipt Success (createCharge t time (laterOf time expiry)); id = ident (idOf time (lowestFree img)) })
     (record { receipt = refusal t r; id = ident nullId })
 
 pub record CreatePromise (t : Tariff) (img : List ℕ) (client expiry : ℕ) (bytes : List ℕ) (time : ℕ) (a : CreateAnswer) (img′ : List ℕ) : Type 0 where

@@ -1,5 +1,5 @@
 -- Document 01, Header: the 64 bytes of a block's header, its fields, and when it is good.
-use Prim.Native.Nat.{ℕ}
+use Prim.Native.Nat.{ℕ, max}
 use mathlib.Core.Bool.{Bool, not, _&&_, _||_}
 use mathlib.Core.List.{List, [], _∷_, _++_}
 use lib.Dec.{eqb, leb, ltb}
@@ -35,6 +35,10 @@ tagOf h = part h 32 16
 -- the header of a used block: used is 1
 abbrev pub isUsed : List ℕ → Bool
 isUsed h = eqb (usedOf h) 1
+
+-- the later of now and the asked expiry
+unfoldable pub laterOf : (time expiry : ℕ) → ℕ
+laterOf time expiry = max time expiry
 
 -- the 64 bytes of a used block's header
 unfoldable pub headerBytes : (owner id created expires : ℕ) (tag : List ℕ) → List ℕ

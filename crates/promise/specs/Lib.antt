@@ -20,4 +20,8 @@ pub mod Scavenge
 pub mod Profile
 pub mod Walk
 pub mod Call
+pub mod TrailerLaws
+pub mod RefusalLaws
+pub mod KeyLaws
+pub mod CallLaws
 pub mod Laws

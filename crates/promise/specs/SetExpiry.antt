@@ -1,5 +1,5 @@
 -- Document 01, SetExpiry: it sets expires to the later of now and the asked expiry. Nothing else in the header changes.
-use Prim.Native.Nat.{ℕ, _+_, max}
+use Prim.Native.Nat.{ℕ, _+_}
 use mathlib.Core.Path.{_≡_}
 use mathlib.Core.Bool.{_||_}
 use mathlib.Core.List.{List, [], _∷_}
@@ -13,7 +13,7 @@ use Rattle.tariff.specs.Charges.{setExpiryCharge}
 use Rattle.tariff.specs.declared.Tariff.{Tariff}
 use Rattle.promise.specs.Layout.{headerAt}
 use Rattle.promise.specs.Trailer.{nOf, clockSet}
-use Rattle.promise.specs.Header.{createdOf, expiresOf}
+use Rattle.promise.specs.Header.{createdOf, expiresOf, laterOf}
 use Rattle.promise.specs.Refusals.{Row, row, lowest, succeeds, badImage, badUser, badNow, badExpiry, notLater, receipt, refusal}
 use Rattle.promise.specs.Lookup.{leadsTo, headerFor, lookupDamaged, noSuchBlock, notOwner}
 
@@ -35,7 +35,7 @@ setExpiryReport img client id expiry time = lowest (setExpiryRows img client id 
 unfoldable pub setExpiryWrites : List ℕ → (id expiry time : ℕ) → List Write
 setExpiryWrites img id expiry time =
     clockSet (nOf img) time
-    ∷ record { at = headerAt (leadsTo id) + 24; bytes = bytesOf 8 (max time expiry) }
+    ∷ record { at = headerAt (leadsTo id) + 24; bytes = bytesOf 8 (laterOf time expiry) }
     ∷ []
 
 unfoldable pub setExpiryImage : List ℕ → (client id expiry time : ℕ) → List ℕ
@@ -47,7 +47,7 @@ setExpiryAnswer t img client id expiry time =
     let r : Report = setExpiryReport img client id expiry time in
     let h : List ℕ = headerFor img id in
     when (succeeds r)
-    (record { receipt = receipt Success (setExpiryCharge t (createdOf h) (expiresOf h) (createdOf h) (max time expiry)) })
+    (record { receipt = receipt Success (setExpiryCharge t (createdOf h) (expiresOf h) (createdOf h) (laterOf time expiry)) })
     (record { receipt = refusal t r })
 
 pub record SetExpiryPromise (t : Tariff) (img : List ℕ) (client id expiry time : ℕ) (a : SetExpiryAnswer) (img′ : List ℕ) : Type 0 where

@@ -2,16 +2,16 @@
 -- another, and what is read after a write, at the same place and at another.
 -- Assumes nothing.
 use Prim.Native.Nat.{ℕ, zero, suc, _+_, _*_, _-_, _/_, _%_, _^_, _≤_, _<_, min}
-use mathlib.Core.Path.{_≡_, refl, ap, ap₂, _∙_}
+use mathlib.Core.Path.{_≡_, refl, sym, ap, ap₂, _∙_}
 use mathlib.Core.Bool.{true}
 use mathlib.Core.Logic.{⊎-elim}
 use mathlib.Core.List.{List, [], _∷_, _++_, append-assoc, append-nil}
-use native.Mathlib.Nat.{add-zero, pow-suc, pow-zero, div-lt-iff-lt-mul, le-trans, pow-le-pow-right}
+use native.Mathlib.Nat.{add-zero, pow-suc, pow-zero, div-lt-iff-lt-mul, le-of-eq, le-trans, pow-le-pow-right}
 use native.Mathlib.Omega.{arith}
 use borrow.Author.Tests.{eqb-true}
 use lib.Dec.{eqb, lit<}
 use lib.ListN.{length, take, drop, getD, length-append, length-take, length-drop, take-append-drop, List·getD-append, List·getD-eq-default}
-use lib.Seq.{getD-take, getD-drop, getD-append-add, ext-getD, take-append-seam, drop-append-add, take-at, drop-at, drop-drop}
+use lib.Seq.{getD-take, getD-drop, getD-append-add, ext-getD, take-append-seam, drop-append-add, take-at, drop-at, drop-drop, take-all}
 use Rattle.plain.specs.Numbers.{lt-or-le}
 use Rattle.plain.specs.Tests.{both}
 use Rattle.word.specs.Word.{part, le, wordAt, bytesOf, Spelled, blank, allZero, Bytes}
@@ -64,6 +64,29 @@ part-part l at k i n h =
     (λ j p. let b : j < n = omega (arith, length-part-any (part l at k) i n) in
     rw (getD-part (part l at k) i n j b, getD-part l at k (i + j) (omega arith), getD-part l (at + i) n j b)
     (ap (λ (x : ℕ). getD l x 0) (omega arith)))
+
+-- the whole as a part, and a part in two
+pub part-whole : (l : List ℕ) (k : ℕ) → length l ≡ k → part l 0 k ≡ l
+unfolding part
+part-whole l k e = take-all k l (le-of-eq e)
+
+pub part-split : (l : List ℕ) (at k m : ℕ) → at + (k + m) ≤ length l → part l at (k + m) ≡ part l at k ++ part l (at + k) m
+part-split l at k m h =
+    let e = length-part l at k (omega arith) in
+    ext-getD 0 (part l at (k + m)) (part l at k ++ part l (at + k) m)
+    (rw (length-part l at (k + m) h, length-append, e, length-part l (at + k) m (omega arith)))
+    (λ i p. let b : i < k + m = omega (arith, length-part l at (k + m) h) in
+    getD-part l at (k + m) i b
+    ∙ ⊎-elim
+    (λ (q : i < k). sym (List·getD-append (part l at k) (part l (at + k) m) 0 i (omega arith) ∙ getD-part l at k i q))
+    (λ (q : k ≤ i).
+    let f : length (part l at k) + (i - k) ≡ i = omega arith in
+    sym
+    (ap (λ (x : ℕ). getD (part l at k ++ part l (at + k) m) x 0) (sym f)
+    ∙ getD-append-add (part l at k) (part l (at + k) m) (i - k) 0
+    ∙ getD-part l (at + k) m (i - k) (omega arith)
+    ∙ ap (λ (x : ℕ). getD l x 0) (omega arith)))
+    (lt-or-le i k))
 
 -- ---- one write
 
@@ -170,7 +193,7 @@ unfolding le
 le-bound [] h = rw pow-zero (omega arith)
 le-bound (b ∷ bs) h = rw pow-suc (omega (arith, h 0, le-bound bs (λ i. h (suc i))))
 
-bytes-part : (l : List ℕ) (at k : ℕ) → Bytes l → Bytes (part l at k)
+pub bytes-part : (l : List ℕ) (at k : ℕ) → Bytes l → Bytes (part l at k)
 bytes-part l at k h i =
     ⊎-elim
     (λ (p : i < k). rw (getD-part l at k i p) (h (at + i)))
@@ -183,6 +206,10 @@ word-bound k l at h =
 
 pub word-below : (m k : ℕ) (l : List ℕ) (at : ℕ) → Bytes l → k ≤ m → Spelled m (wordAt k l at)
 word-below m k l at h b = le-trans (word-bound k l at h) (pow-le-pow-right (lit< tt) b)
+
+-- the bytes at a place are the spelling of the number there
+pub word-bytes : (k : ℕ) (l : List ℕ) (at : ℕ) → Bytes l → at + k ≤ length l → bytesOf k (wordAt k l at) ≡ part l at k
+word-bytes k l at h f = rw (length-part l at k f) at (bytesOf-le (part l at k) (bytes-part l at k h))
 
 -- a number that is written reads back, at its own place
 pub word-same : (k : ℕ) (l : List ℕ) (at v : ℕ) → at + k ≤ length l → Spelled k v → wordAt k (over l at (bytesOf k v)) at ≡ v
