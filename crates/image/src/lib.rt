@@ -1,2 +1,13 @@
 // The image in code: its trailer, headers, map, counts and data, and the two entries that are free of charge, Format and Check.
+ghost use mathlib.Core.Path.{_≡_};
+ghost use mathlib.Core.Bool.{_&&_};
+
 pub mod map;
+pub mod trailer;
+
+// Both of two answers.
+pub(crate) fn both(a: bool, b: bool) -> bool
+    ensures { λ r. ⌜ r ≡ (a && b) ⌝ }
+{
+    if a { b } else { false }
+}

@@ -2,9 +2,9 @@
 -- cases of a definition.
 -- Assumes nothing.
 use Prim.Native.Nat.{ℕ, zero, suc}
-use mathlib.Core.Path.{_≡_, refl}
-use mathlib.Core.Bool.{Bool, true, false, _&&_}
-use mathlib.Core.List.{List, [], _∷_}
+use mathlib.Core.Path.{_≡_, refl, sym, ap, _∙_}
+use mathlib.Core.Bool.{Bool, true, false, _&&_, and-assoc}
+use mathlib.Core.List.{List, [], _∷_, _++_}
 use mathlib.Core.Logic.{_⊎_, inl, inr}
 use borrow.Author.Tests.{lt-ltb, le-ltb, le-leb, lt-leb, eq-eqb, ne-eqb}
 use lib.ListN.{getD}
@@ -45,3 +45,9 @@ also t ts e f = rw (e, f)
 pub done : all [] ≡ true
 unfolding all
 done = refl
+
+-- the tests of two lists
+pub all-append : (ss ts : List Bool) → all (ss ++ ts) ≡ (all ss && all ts)
+unfolding all
+all-append [] ts = refl
+all-append (s ∷ ss) ts = ap (λ r. s && r) (all-append ss ts) ∙ sym (and-assoc s (all ss) (all ts))
