@@ -4,13 +4,14 @@ use Prim.Native.Nat.{ℕ, _<_, _^_}
 use mathlib.Core.Path.{_≡_}
 use mathlib.Core.Bool.{Bool}
 use mathlib.Core.List.{List, [], _∷_}
-use lib.Dec.{eqb, ltb}
+use lib.Dec.{eqb, leb, ltb}
 use lib.ListN.{length}
-use Rattle.plain.specs.Tests.{when, all}
+use Rattle.plain.specs.Tests.{when}
 use Rattle.word.specs.Word.{part, le, wordAt, allZero}
 use Rattle.kinds.specs.Kinds.{tick}
 use Rattle.promise.specs.Layout.{sizeOf, endOfTime}
 use Rattle.promise.specs.Trailer.{nOf, clockOf, backToHeaders, backToMap, backToCounts, backToData, mark, trailerRight}
+use Rattle.promise.specs.Header.{isUsed, ownerOf, createdOf, expiresOf}
 use Rattle.promise.specs.TrailerLaws.{Number}
 use Rattle.image.specs.declared.trailer.Trailer.{Trailer}
 use Rattle.image.specs.declared.trailer.Trailer.the-variants.{Bad, Right}
@@ -47,3 +48,10 @@ restTests t =
     ∷ allZero (part t 32 476)
     ∷ eqb (wordAt 4 t 508) (le mark)
     ∷ []
+
+-- the tests of a used header's fixed bytes, and of its times
+abbrev pub shapeTests : (h : List ℕ) → List Bool
+shapeTests h = isUsed h ∷ allZero (part h 2 6) ∷ allZero (part h 48 16) ∷ leb (ownerOf h) 63 ∷ []
+
+abbrev pub timeTests : (clock : ℕ) (h : List ℕ) → List Bool
+timeTests clock h = leb 1 (createdOf h) ∷ leb (createdOf h) clock ∷ leb 1 (expiresOf h) ∷ ltb (expiresOf h) endOfTime ∷ []

@@ -2,6 +2,8 @@
 ghost use mathlib.Core.Path.{_≡_};
 ghost use mathlib.Core.Bool.{_&&_};
 
+pub mod counts;
+pub mod header;
 pub mod map;
 pub mod trailer;
 
