@@ -1,7 +1,9 @@
--- What a caller knows of an image whose trailer it has read.
-use Prim.Native.Nat.{ℕ, _<_, _^_}
+-- What a caller knows of an image whose trailer it has read; and the bits of a byte.
+use Prim.Native.Nat.{ℕ, _/_, _%_, _^_, _<_}
 use mathlib.Core.Path.{_≡_}
+use mathlib.Core.Bool.{Bool}
 use mathlib.Core.List.{List}
+use lib.Dec.{eqb}
 use lib.ListN.{length}
 use Rattle.promise.specs.Layout.{sizeOf}
 use Rattle.promise.specs.Trailer.{nOf, clockOf}
@@ -18,3 +20,7 @@ pub record Known (img : List ℕ) (n clock : ℕ) : Type 0 where
   pub its-n : nOf img ≡ n
   pub its-clock : clockOf img ≡ clock
   pub in-time : clock < 2 ^ 40
+
+-- bit j of m is 1
+unfoldable pub bitOf : (m j : ℕ) → Bool
+bitOf m j = eqb (m / 2 ^ j % 2) 1
