@@ -7,12 +7,9 @@ use mathlib.Core.Path.{_≡_, refl, sym, ap, _∙_}
 use mathlib.Core.Bool.{Bool, true, false}
 use mathlib.Core.List.{List}
 use borrow.Author.Tests.{eqb-true}
-use lib.IntN.{ℤ}
-use Rattle.plain.specs.Tests.{when}
 use Rattle.word.specs.Word.{allZero}
 use Rattle.kinds.specs.Report.{numberOf}
 use Rattle.kinds.specs.Laws.{injective}
-use Rattle.kinds.specs.declared.GetIdsAnswer.{GetIdsAnswer}
 use Rattle.kinds.specs.declared.Report.{Report}
 use Rattle.kinds.specs.declared.Report.the-variants.{Success}
 use Rattle.kinds.specs.declared.Walk.{Walk}

@@ -1,7 +1,7 @@
 -- Document 01, Fourteen calls: N = 8, fresh; all ten prices 10, error price 1, rate 2; in sequence.
 use Prim.Native.Nat.{ℕ}
 use mathlib.Core.List.{List, [], _∷_}
-use mathlib.Core.Option.{Option, none, some}
+use mathlib.Core.Option.{none, some}
 use lib.IntN.{ℤ, pos, negsuc}
 use lib.ListN.{replicate}
 use Rattle.word.specs.Word.{bytesOf}

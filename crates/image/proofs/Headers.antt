@@ -1,6 +1,6 @@
 -- A header's rule in the parts that the code tests, and a header and a service block as the code writes them, piece by piece.
 -- Assumes nothing.
-use Prim.Native.Nat.{ℕ, _+_, _-_, _*_, _^_, _≤_, _<_}
+use Prim.Native.Nat.{ℕ, _+_, _-_, _*_, _≤_, _<_}
 use mathlib.Core.Path.{_≡_, refl, sym, ap, ap₂, _∙_}
 use mathlib.Core.Bool.{Bool, true, false, _&&_, and-true, and-false, or-false}
 use mathlib.Core.List.{List, [], _∷_, _++_, append-nil}
@@ -11,10 +11,10 @@ use lib.ListN.{length, take, drop, length-append, drop-of-length-le}
 use Rattle.plain.specs.Tests.{all, nth, all-append}
 use Rattle.word.specs.Word.{part, le, wordAt, bytesOf, blank, allZero}
 use Rattle.word.specs.Write.{over}
-use Rattle.word.specs.Laws.{length-bytesOf, length-blank, length-part, part-whole, part-part, over-append, length-over}
+use Rattle.word.specs.Laws.{length-bytesOf, length-blank, length-part, part-part, over-append}
 use Rattle.word.proofs.Lent.{lent-part}
 use Rattle.ident.specs.Ident.{idOf}
-use Rattle.promise.specs.Layout.{headerAt, countAt, dataAt}
+use Rattle.promise.specs.Layout.{countAt, dataAt}
 use Rattle.promise.specs.Header.{headerOf, idIn, createdOf, usedRight, goodHeader, headerBytes}
 use Rattle.promise.specs.Map.{free, good}
 use Rattle.promise.specs.Counts.{countOf, dataOf, serviceBlock}

@@ -1,2 +1,4 @@
+pub mod Bits
+pub mod Lowest
 pub mod Trailers
 pub mod Headers

@@ -1,16 +1,16 @@
 -- The trailer's rule in the parts that the code tests, and what a reading answers in each case.
 -- Assumes nothing.
-use Prim.Native.Nat.{ℕ, _+_, _-_, _*_, _^_, _≤_, _<_}
+use Prim.Native.Nat.{ℕ, _-_, _≤_, _<_}
 use mathlib.Core.Path.{_≡_, refl, sym, ap, _∙_}
-use mathlib.Core.Bool.{true, false, _&&_, and-false}
-use mathlib.Core.List.{List, [], _∷_}
+use mathlib.Core.Bool.{true, false, _&&_}
+use mathlib.Core.List.{List}
 use mathlib.Core.Logic.{⊎-elim}
 use native.Mathlib.Omega.{arith}
 use borrow.Author.Tests.{ne-eqb, eq-eqb}
 use lib.Dec.{eqb}
 use lib.ListN.{length, take, drop}
 use Rattle.plain.specs.Tests.{all, all-append, decide}
-use Rattle.word.specs.Word.{part, wordAt}
+use Rattle.word.specs.Word.{wordAt}
 use Rattle.word.specs.Laws.{length-part}
 use Rattle.word.proofs.Lent.{lent-part}
 use Rattle.kinds.specs.Kinds.{tick}

@@ -1,6 +1,6 @@
 -- What a caller knows of an image whose trailer it has read; what that reading answers; and the parts of document 01's rules that the
 -- code tests one after the other.
-use Prim.Native.Nat.{ℕ, _<_, _^_}
+use Prim.Native.Nat.{ℕ, _/_, _%_, _^_, _<_}
 use mathlib.Core.Path.{_≡_}
 use mathlib.Core.Bool.{Bool}
 use mathlib.Core.List.{List, [], _∷_}
@@ -55,3 +55,7 @@ shapeTests h = isUsed h ∷ allZero (part h 2 6) ∷ allZero (part h 48 16) ∷ 
 
 abbrev pub timeTests : (clock : ℕ) (h : List ℕ) → List Bool
 timeTests clock h = leb 1 (createdOf h) ∷ leb (createdOf h) clock ∷ leb 1 (expiresOf h) ∷ ltb (expiresOf h) endOfTime ∷ []
+
+-- bit j of a byte is 1
+unfoldable pub bitOf : (m j : ℕ) → Bool
+bitOf m j = eqb (m / 2 ^ j % 2) 1

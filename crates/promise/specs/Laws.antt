@@ -1,6 +1,6 @@
 -- What a reader wants to know of the definitions: of the layout, of soundness, of times.
 -- Assumes nothing.
-use Prim.Native.Nat.{ℕ, _+_, _*_, _/_, _%_, _≤_, _<_}
+use Prim.Native.Nat.{ℕ, _+_, _*_, _/_, _%_, _≤_}
 use mathlib.Core.Path.{_≡_, refl}
 use mathlib.Core.Bool.{true, false, and-false}
 use mathlib.Core.List.{List}
@@ -8,7 +8,6 @@ use native.Mathlib.Omega.{arith}
 use borrow.Author.Tests.{eqb-true, eq-eqb, le-ltb}
 use lib.Dec.{eqb}
 use Rattle.plain.specs.Tests.{both}
-use Rattle.run.specs.Run.{allOf}
 use Rattle.run.specs.Laws.{all-each, each-all}
 use Rattle.promise.specs.Layout.{headerAt, mapAt, countAt, dataAt, trailerAt, sizeOf}
 use Rattle.promise.specs.Trailer.{nOf, backToHeaders, backToMap, backToCounts, backToData}

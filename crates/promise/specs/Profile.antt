@@ -1,7 +1,7 @@
 -- Document 01, Profile: it writes, for each used block in rising block number, owner, created, expires, 8 bytes each.
 use Prim.Native.Nat.{ℕ, _+_}
 use mathlib.Core.Path.{_≡_}
-use mathlib.Core.Bool.{Bool, not}
+use mathlib.Core.Bool.{not}
 use mathlib.Core.List.{List, [], _∷_, _++_}
 use lib.ListN.{length}
 use Rattle.plain.specs.Tests.{when}

@@ -1,19 +1,18 @@
 -- What `lowest` means: the report is r exactly where row r applies and no lower one does, and Success exactly where none applies.
 -- Assumes nothing.
-use Prim.Native.Nat.{ℕ, suc, _+_, _≤_, _<_}
+use Prim.Native.Nat.{ℕ, _+_, _≤_, _<_}
 use mathlib.Core.Path.{_≡_, refl, sym, _∙_, subst}
 use mathlib.Core.Bool.{Bool, true, false, _&&_, _||_, and-false}
 use mathlib.Core.Logic.{⊎-elim}
 use mathlib.Core.List.{List, [], _∷_}
 use native.Mathlib.Omega.{arith}
-use borrow.Author.Tests.{eq-eqb, ne-eqb, eqb-true, leb-true}
+use borrow.Author.Tests.{eq-eqb, ne-eqb, leb-true}
 use lib.Dec.{eqb, leb}
 use Rattle.plain.specs.Numbers.{lt-or-le}
 use Rattle.plain.specs.Tests.{when, both}
 use Rattle.kinds.specs.Report.{numberOf}
 use Rattle.kinds.specs.Laws.{injective}
 use Rattle.kinds.specs.declared.Report.{Report}
-use Rattle.kinds.specs.declared.Report.the-variants.{Success}
 use Rattle.promise.specs.Refusals.{Row, lowest}
 
 -- a row with this number applies

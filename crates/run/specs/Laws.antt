@@ -81,6 +81,43 @@ module _ (p : ℕ → Bool) where
       go r true e h = absurd (omega arith)
       go r false e h = ⊎-elim (λ (q : b ≡ x). ap p (sym q) ∙ e) (λ (q : b < x). r (omega arith) h) (eq-or-lt-of-le l)
 
+  -- ---- the first of a run in two parts is that of the first part where it has one, else that of the second
+
+  pub first-within : (b k m : ℕ) → first p b k < b + k → first p b (k + m) ≡ first p b k
+  unfolding first
+  first-within b zero m h = absurd (omega arith)
+  first-within b (suc k) m h = let e : suc k + m ≡ suc (k + m) = omega arith in rw e (go (p b) (first-within (b + 1) k m) h)
+    where
+      go : (t : Bool) → (first p (b + 1) k < b + 1 + k → first p (b + 1) (k + m) ≡ first p (b + 1) k)
+          → cond t b (first p (b + 1) k) < b + suc k → cond t b (first p (b + 1) (k + m)) ≡ cond t b (first p (b + 1) k)
+      go true r h = refl
+      go false r h = r (omega arith)
+
+  pub first-beyond : (b k m : ℕ) → first p b k ≡ b + k → first p b (k + m) ≡ first p (b + k) m
+  unfolding first
+  first-beyond b zero m h = let e : zero + m ≡ m = omega arith in let z : b + zero ≡ b = omega arith in rw (e, z)
+  first-beyond b (suc k) m h =
+      let e : suc k + m ≡ suc (k + m) = omega arith in
+      let z : b + suc k ≡ b + 1 + k = omega arith in
+      rw (e, z) (go (p b) (first-beyond (b + 1) k m) h)
+    where
+      go : (t : Bool) → (first p (b + 1) k ≡ b + 1 + k → first p (b + 1) (k + m) ≡ first p (b + 1 + k) m)
+          → cond t b (first p (b + 1) k) ≡ b + suc k → cond t b (first p (b + 1) (k + m)) ≡ first p (b + 1 + k) m
+      go true r h = absurd (omega arith)
+      go false r h = r (omega arith)
+
+  -- a test that says of each number of a run what p says b higher
+  pub first-moved : (q : ℕ → Bool) (b c k : ℕ) → ((x : ℕ) → c ≤ x → x < c + k → p (b + x) ≡ q x) → first p (b + c) k ≡ b + first q c k
+  unfolding first
+  first-moved q b c zero h = refl
+  first-moved q b c (suc k) h =
+      let z : b + c + 1 ≡ b + (c + 1) = omega arith in
+      rw (z, h c (omega arith) (omega arith)) (go (q c) (first-moved q b (c + 1) k (λ x l u. h x (omega arith) (omega arith))))
+    where
+      go : (t : Bool) → first p (b + (c + 1)) k ≡ b + first q (c + 1) k → cond t (b + c) (first p (b + (c + 1)) k) ≡ b + cond t c (first q (c + 1) k)
+      go true r = refl
+      go false r = r
+
   -- ---- how far a visit goes: at most `most`, and somewhere if it may
 
   pub visits-le : (most wanted b : ℕ) → visits p most wanted b ≤ most
