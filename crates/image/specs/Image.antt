@@ -1,17 +1,20 @@
 -- What a caller knows of an image whose trailer it has read; what that reading answers; and the parts of document 01's rules that the
 -- code tests one after the other.
-use Prim.Native.Nat.{ℕ, _/_, _%_, _^_, _<_}
+use Prim.Native.Nat.{ℕ, _+_, _/_, _%_, _^_, _<_}
 use mathlib.Core.Path.{_≡_}
-use mathlib.Core.Bool.{Bool}
+use mathlib.Core.Bool.{Bool, _&&_}
 use mathlib.Core.List.{List, [], _∷_}
 use lib.Dec.{eqb, leb, ltb}
-use lib.ListN.{length}
+use lib.ListN.{length, getD, set}
 use Rattle.plain.specs.Tests.{when}
 use Rattle.word.specs.Word.{part, le, wordAt, allZero}
 use Rattle.kinds.specs.Kinds.{tick}
+use Rattle.run.specs.Run.{allOf, times}
 use Rattle.promise.specs.Layout.{sizeOf, endOfTime}
 use Rattle.promise.specs.Trailer.{nOf, clockOf, backToHeaders, backToMap, backToCounts, backToData, mark, trailerRight}
 use Rattle.promise.specs.Header.{isUsed, ownerOf, createdOf, expiresOf}
+use Rattle.promise.specs.Map.{spareZero, good}
+use Rattle.promise.specs.Counts.{countOf, owners}
 use Rattle.promise.specs.TrailerLaws.{Number}
 use Rattle.image.specs.declared.trailer.Trailer.{Trailer}
 use Rattle.image.specs.declared.trailer.Trailer.the-variants.{Bad, Right}
@@ -59,3 +62,17 @@ timeTests clock h = leb 1 (createdOf h) ∷ leb (createdOf h) clock ∷ leb 1 (e
 -- bit j of a byte is 1
 unfoldable pub bitOf : (m j : ℕ) → Bool
 bitOf m j = eqb (m / 2 ^ j % 2) 1
+
+-- a tally of owners with one more block for the owner of a used header
+unfoldable pub tallied : (h tally : List ℕ) → List ℕ
+tallied h tally = when (isUsed h) (set tally (ownerOf h) (getD tally (ownerOf h) 0 + 1)) tally
+
+-- a client's count is its tally
+abbrev pub sameCount : (n : ℕ) (img tally : List ℕ) (u : ℕ) → Bool
+sameCount n img tally u = eqb (countOf n img u) (getD tally u 0)
+
+-- all of an image but its trailer is sound
+unfoldable pub bodySound : List ℕ → Bool
+bodySound img =
+    let n : ℕ = nOf img in
+    allOf (good img) 0 n && spareZero n img && allOf (λ u. eqb (countOf n img u) (times u (owners n img))) 0 64

@@ -5,6 +5,7 @@ ghost use mathlib.Core.Bool.{_&&_};
 pub mod counts;
 pub mod header;
 pub mod map;
+pub mod sound;
 pub mod trailer;
 
 // Both of two answers.

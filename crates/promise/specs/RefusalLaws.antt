@@ -9,7 +9,7 @@ use native.Mathlib.Omega.{arith}
 use borrow.Author.Tests.{eq-eqb, ne-eqb, leb-true}
 use lib.Dec.{eqb, leb}
 use Rattle.plain.specs.Numbers.{lt-or-le}
-use Rattle.plain.specs.Tests.{when, both}
+use Rattle.plain.specs.Tests.{when, clash, both}
 use Rattle.kinds.specs.Report.{numberOf}
 use Rattle.kinds.specs.Laws.{injective}
 use Rattle.kinds.specs.declared.Report.{Report}
@@ -63,12 +63,9 @@ given (r ∷ rs) b one h =
 lower : (rows : List Row) (r s : Report) → Given rows r → Given rows s → numberOf r < numberOf s → ⊥
 lower rows r s g h l =
     ⊎-elim
-    (λ (z : 0 < numberOf r). let e : _≡_ {A = Bool} true false = sym (g .refused z) ∙ h .first (numberOf r) l in absurd (no-clash e))
-    (λ (z : numberOf r ≤ 0). let e : _≡_ {A = Bool} true false = sym (h .refused (omega arith)) ∙ g .clear (omega arith) (numberOf s) in absurd (no-clash e))
+    (λ (z : 0 < numberOf r). clash (sym (g .refused z) ∙ h .first (numberOf r) l))
+    (λ (z : numberOf r ≤ 0). clash (sym (h .refused (omega arith)) ∙ g .clear (omega arith) (numberOf s)))
     (lt-or-le 0 (numberOf r))
-  where
-    no-clash : _≡_ {A = Bool} true false → ⊥
-    no-clash e = let z : _≡_ {A = ℕ} 0 1 = cc in omega arith
 
 alone : (rows : List Row) (r s : Report) → Given rows r → Given rows s → r ≡ s
 alone rows r s g h =

@@ -224,6 +224,11 @@ module _ (p : ℕ → Bool) where
       let w = both (p b) (allOf p (b + 1) k) e in
       ⊎-elim (λ (q : b ≡ x). ap p (sym q) ∙ w .0) (λ (q : b < x). all-each (b + 1) k x (w .1) (omega arith) (omega arith)) (eq-or-lt-of-le l)
 
+  pub all-same : (q : ℕ → Bool) (b k : ℕ) → ((x : ℕ) → b ≤ x → x < b + k → p x ≡ q x) → allOf p b k ≡ allOf q b k
+  unfolding allOf
+  all-same q b zero h = refl
+  all-same q b (suc k) h = rw (h b (omega arith) (omega arith), all-same q (b + 1) k (λ x l u. h x (omega arith) (omega arith)))
+
   pub each-all : (b k : ℕ) → ((x : ℕ) → b ≤ x → x < b + k → p x ≡ true) → allOf p b k ≡ true
   unfolding allOf
   each-all b zero h = refl

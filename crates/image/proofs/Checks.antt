@@ -1,0 +1,87 @@
+-- Check's test in the parts that the code tests one after the other.
+-- Assumes nothing.
+use Prim.Native.Nat.{ℕ, zero, suc, _<_}
+use mathlib.Core.Path.{_≡_, refl, sym, ap, _∙_}
+use mathlib.Core.Bool.{Bool, true, false, _&&_, and-assoc}
+use mathlib.Core.List.{List}
+use native.Mathlib.Omega.{arith}
+use lib.Dec.{eqb}
+use lib.ListN.{getD, replicate}
+use Rattle.run.specs.Run.{allOf, times}
+use Rattle.run.specs.Laws.{all-same}
+use Rattle.kinds.specs.Kinds.{tick}
+use Rattle.kinds.specs.declared.Tick.{Tick}
+use Rattle.promise.specs.Layout.{sizeOf}
+use Rattle.promise.specs.Trailer.{nOf, clockOf, trailerRight}
+use Rattle.promise.specs.TrailerLaws.{right}
+use Rattle.promise.specs.Map.{spareZero, good}
+use Rattle.promise.specs.Counts.{countOf, owners}
+use Rattle.promise.specs.Sound.{soundImage}
+use Rattle.image.specs.Image.{Known, trailerAnswer, sameCount, bodySound}
+use Rattle.image.specs.declared.trailer.Trailer.the-variants.{Bad, Right}
+
+-- a tally that begins with zeros
+pub zeros : (k u : ℕ) → _≡_ {A = ℕ} (getD (replicate k 0) u 0) 0
+zeros zero u = refl
+zeros (suc k) zero = refl
+zeros (suc k) (suc u) = zeros k u
+
+-- ---- all but the trailer
+
+module _ (img : List ℕ) (n : ℕ) (e : nOf img ≡ n) where
+  pub bad-header : allOf (good img) 0 n ≡ false → false ≡ bodySound img
+  unfolding bodySound
+  bad-header h = rw (e, h)
+
+  pub bad-spare : allOf (good img) 0 n ≡ true → spareZero n img ≡ false → false ≡ bodySound img
+  unfolding bodySound
+  bad-spare h s = rw (e, h, s)
+
+  pub by-counts : allOf (good img) 0 n ≡ true → spareZero n img ≡ true
+      → (tally : List ℕ) → ((u : ℕ) → u < 64 → getD tally u 0 ≡ times u (owners n img))
+      → allOf (sameCount n img tally) 0 64 ≡ bodySound img
+  unfolding bodySound
+  by-counts h s tally t =
+      rw (e, h, s)
+      (all-same (sameCount n img tally) (λ u. eqb (countOf n img u) (times u (owners n img))) 0 64 (λ u l b. ap (λ (x : ℕ). eqb (countOf n img u) x) (t u (omega arith))))
+
+-- ---- the trailer, and the rest
+
+split : (img : List ℕ) → soundImage img ≡ (trailerRight img && bodySound img)
+unfolding soundImage bodySound countOf
+split img =
+    ap (λ r. r && allOf (λ u. eqb (countOf (nOf img) img u) (times u (owners (nOf img) img))) 0 64) (and-assoc (trailerRight img) (allOf (good img) 0 (nOf img)) (spareZero (nOf img) img))
+    ∙ and-assoc (trailerRight img) (allOf (good img) 0 (nOf img) && spareZero (nOf img) img) (allOf (λ u. eqb (countOf (nOf img) img u) (times u (owners (nOf img) img))) 0 64)
+
+-- what a reading that answered Bad, or Right, tells
+pub told-bad : (img : List ℕ) → trailerAnswer img ≡ Bad → false ≡ soundImage img
+unfolding trailerAnswer
+told-bad img e = go (trailerRight img) refl
+  where
+    go : (t : Bool) → trailerRight img ≡ t → false ≡ soundImage img
+    go true q = let z : _≡_ {A = ℕ} 0 1 = cc in absurd (omega arith)
+    go false q = sym (split img ∙ rw q)
+
+module _ (img : List ℕ) (n : ℕ) (clock : Tick) (e : trailerAnswer img ≡ Right n clock) where
+  its-trailer : trailerRight img ≡ true
+  unfolding trailerAnswer
+  its-trailer = go (trailerRight img) refl
+    where
+      go : (t : Bool) → trailerRight img ≡ t → trailerRight img ≡ true
+      go true q = q
+      go false q = let z : _≡_ {A = ℕ} 0 1 = cc in absurd (omega arith)
+
+  its : Right (nOf img) (tick (clockOf img)) ≡ Right n clock
+  unfolding trailerAnswer
+  its = rw its-trailer at e
+
+  pub told-known : Known img n (clock .0)
+  told-known =
+      let r = right img its-trailer in
+      let p : nOf img ≡ n = cc its in
+      let t : tick (clockOf img) ≡ clock = cc its in
+      let q : clockOf img ≡ clock .0 = ap (λ (x : Tick). x .0) t in
+      record { laid = record { number = rw p at (r .number); size = r .size ∙ ap sizeOf p }; its-n = p; its-clock = q; in-time = omega (arith, r .clock) }
+
+  pub told-body : bodySound img ≡ soundImage img
+  told-body = sym (split img ∙ rw its-trailer)

@@ -1,0 +1,140 @@
+-- The tally of owners that Check keeps: what one header adds to it, and what it is after all headers.
+-- Assumes nothing.
+use Prim.Native.Nat.{ℕ, _+_, _-_, _*_, _≤_, _<_}
+use mathlib.Core.Path.{_≡_, refl, sym, ap, _∙_}
+use mathlib.Core.Bool.{Bool, true, false, not, cond, _&&_, _||_}
+use mathlib.Core.List.{List, [], _∷_, map, map-append}
+use native.Mathlib.Decide.{ℕ-discrete}
+use native.Mathlib.Omega.{arith}
+use borrow.Author.Tests.{eqb-true, leb-true, eq-eqb, ne-eqb}
+use lib.Dec.{eqb}
+use lib.ListN.{length, take, drop, getD, set, length-set}
+use lib.Seq.{getD-set-same, getD-set-other}
+use Rattle.plain.specs.Tests.{when, clash, both, nth}
+use Rattle.word.specs.Word.{part, le, allZero}
+use Rattle.word.specs.Laws.{length-part}
+use Rattle.word.proofs.Lent.{lent-part}
+use Rattle.run.specs.Run.{just, picked, times}
+use Rattle.run.specs.Laws.{just-yes, just-no, times-append}
+use Rattle.run.proofs.Turns.{picked-turn, picked-end}
+use Rattle.promise.specs.Header.{headerOf, isUsed, ownerOf, usedRight, goodHeader}
+use Rattle.promise.specs.Map.{good}
+use Rattle.promise.specs.Counts.{owners}
+use Rattle.image.specs.Image.{tallied}
+
+-- ---- the owner of a good header that is used is a client
+
+zero-unused : (h : List ℕ) → allZero h ≡ true → isUsed h ≡ false
+unfolding allZero part le
+zero-unused [] e = refl
+zero-unused (x ∷ h) e =
+    let z = eqb-true x 0 (both (eqb x 0) (allZero h) e .0) in
+    ne-eqb (x + 256 * 0) 1 (λ q. omega arith)
+
+owner-below : (clock b : ℕ) (f : Bool) (h : List ℕ) → goodHeader clock b f h ≡ true → isUsed h ≡ true → ownerOf h < 64
+unfolding goodHeader usedRight
+owner-below clock b f h e u = go (allZero h) refl (usedRight clock b h) refl f e
+  where
+    go : (z : Bool) → allZero h ≡ z → (r : Bool) → usedRight clock b h ≡ r → (f : Bool) → ((z && f) || (r && not f)) ≡ true → ownerOf h < 64
+    go true p r q f e = absurd (clash (sym u ∙ zero-unused h p))
+    go false p true q f e = omega (arith, leb-true (ownerOf h) 63 (nth _ 3 q))
+    go false p false q f e = absurd (clash (sym e))
+
+pub client : (img : List ℕ) (b : ℕ) → good img b ≡ true → isUsed (headerOf img b) ≡ true → ownerOf (headerOf img b) < 64
+unfolding good
+client img b e u = owner-below _ _ _ (headerOf img b) e u
+
+-- ---- a header, lent from the image
+
+pub lent-header : (img : List ℕ) (b : ℕ) → take (64 * b + 64 - 64 * b) (drop (64 * b) img) ≡ headerOf img b
+unfolding headerOf
+lent-header img b = lent-part img (64 * b) (64 * b + 64) 64 refl
+
+pub length-header : (img : List ℕ) (b : ℕ) → 64 * b + 64 ≤ length img → length (headerOf img b) ≡ 64
+unfolding headerOf
+length-header img b h = length-part img (64 * b) 64 h
+
+-- ---- what one header adds
+
+pub length-tallied : (h t : List ℕ) → length (tallied h t) ≡ length t
+unfolding tallied
+length-tallied h t = go (isUsed h)
+  where
+    go : (r : Bool) → length (when r (set t (ownerOf h) (getD t (ownerOf h) 0 + 1)) t) ≡ length t
+    go true = length-set t (ownerOf h) (getD t (ownerOf h) 0 + 1)
+    go false = refl
+
+pub tallied-used : (h t : List ℕ) (u : ℕ) → isUsed h ≡ true → u ≡ ownerOf h → set t u (getD t u 0 + 1) ≡ tallied h t
+unfolding tallied
+tallied-used h t u e q = rw (e, q)
+
+pub tallied-not : (h t : List ℕ) → isUsed h ≡ false → t ≡ tallied h t
+unfolding tallied
+tallied-not h t e = rw e
+
+-- a place of a list after one was added at x
+raised : (t : List ℕ) (x u : ℕ) → x < length t → getD (set t x (getD t x 0 + 1)) u 0 ≡ getD t u 0 + cond (eqb u x) 1 0
+raised t x u h = go (ℕ-discrete u x)
+  where
+    go : Dec (u ≡ x) → getD (set t x (getD t x 0 + 1)) u 0 ≡ getD t u 0 + cond (eqb u x) 1 0
+    go (yes q) = rw (q, eq-eqb x x refl) (getD-set-same t x (getD t x 0 + 1) 0 h)
+    go (no d) = rw (ne-eqb u x d) (getD-set-other t x u (getD t x 0 + 1) 0 d ∙ omega arith)
+
+module _ (img : List ℕ) where
+  -- the owners of the used headers among k from b on
+  abbrev pub ownersFrom : (b k : ℕ) → List ℕ
+  ownersFrom b k = map (λ b. ownerOf (headerOf img b)) (picked (λ b. isUsed (headerOf img b)) b k)
+
+  abbrev here : ℕ → List ℕ
+  here b = map (λ b. ownerOf (headerOf img b)) (just (λ b. isUsed (headerOf img b)) b)
+
+  pub added : (b : ℕ) (t : List ℕ) (u : ℕ) → (isUsed (headerOf img b) ≡ true → ownerOf (headerOf img b) < length t)
+      → getD (tallied (headerOf img b) t) u 0 ≡ getD t u 0 + times u (here b)
+  unfolding times tallied
+  added b t u c = go (isUsed (headerOf img b)) refl
+    where
+      go : (r : Bool) → isUsed (headerOf img b) ≡ r → getD (tallied (headerOf img b) t) u 0 ≡ getD t u 0 + times u (here b)
+      go true e =
+          rw (e, just-yes (λ b. isUsed (headerOf img b)) b e)
+          (raised t (ownerOf (headerOf img b)) u (c e) ∙ omega arith)
+      go false e = rw (e, just-no (λ b. isUsed (headerOf img b)) b e) (omega arith)
+
+  one-more : (b u : ℕ) → times u (here b) ≤ 1
+  unfolding times
+  one-more b u = go (isUsed (headerOf img b)) refl (eqb u (ownerOf (headerOf img b))) refl
+    where
+      go : (r : Bool) → isUsed (headerOf img b) ≡ r → (s : Bool) → eqb u (ownerOf (headerOf img b)) ≡ s → times u (here b) ≤ 1
+      go true e true q = rw (just-yes (λ b. isUsed (headerOf img b)) b e, q) (omega arith)
+      go true e false q = rw (just-yes (λ b. isUsed (headerOf img b)) b e, q) (omega arith)
+      go false e s q = rw (just-no (λ b. isUsed (headerOf img b)) b e) (omega arith)
+
+  -- ---- one turn, and the end
+
+  pub owners-turn : (b k u : ℕ) → 0 < k → times u (ownersFrom b k) ≡ times u (here b) + times u (ownersFrom (b + 1) (k - 1))
+  owners-turn b k u h =
+      rw (picked-turn (λ b. isUsed (headerOf img b)) b k h, map-append) (times-append u (here b) (ownersFrom (b + 1) (k - 1)))
+
+  pub owners-end : (b k u : ℕ) → k ≤ 0 → times u (ownersFrom b k) ≡ 0
+  unfolding times
+  owners-end b k u h = rw (picked-end (λ b. isUsed (headerOf img b)) b k h)
+
+  -- ---- the tally of all, with what is left, before the first header, a header on, and after the last
+
+  pub begun : (n : ℕ) (t : List ℕ) → ((u : ℕ) → getD t u 0 ≡ 0) → (u : ℕ) → getD t u 0 + times u (ownersFrom 0 n) ≡ times u (owners n img)
+  unfolding owners
+  begun n t z u = rw (z u) (omega arith)
+
+  pub visited : (n b k : ℕ) (t t′ : List ℕ) → 0 < k → good img b ≡ true → length t ≡ 64 → t′ ≡ tallied (headerOf img b) t
+      → ((u : ℕ) → getD t u 0 + times u (ownersFrom b k) ≡ times u (owners n img))
+      → (u : ℕ) → getD t′ u 0 + times u (ownersFrom (b + 1) (k - 1)) ≡ times u (owners n img)
+  visited n b k t t′ h g l e i u =
+      omega (arith, ap (λ r. getD r u 0) e, added b t u (λ q. omega (arith, client img b g q)), owners-turn b k u h, i u)
+
+  pub bounded : (b : ℕ) (t t′ : List ℕ) → good img b ≡ true → length t ≡ 64 → t′ ≡ tallied (headerOf img b) t
+      → ((u : ℕ) → getD t u 0 ≤ b) → (u : ℕ) → getD t′ u 0 ≤ b + 1
+  bounded b t t′ g l e i u =
+      omega (arith, ap (λ r. getD r u 0) e, added b t u (λ q. omega (arith, client img b g q)), i u, one-more b u)
+
+  pub counted : (n b k : ℕ) (t : List ℕ) → k ≤ 0 → ((u : ℕ) → getD t u 0 + times u (ownersFrom b k) ≡ times u (owners n img))
+      → (u : ℕ) → getD t u 0 ≡ times u (owners n img)
+  counted n b k t h i u = omega (arith, owners-end b k u h, i u)
