@@ -106,6 +106,10 @@ rule-is-bytes img b h =
 
 -- ---- from the bytes to the rule
 
+pub length-trailerBytes : (n clock : ℕ) → length (trailerBytes n clock) ≡ 512
+unfolding trailerBytes bytesOf blank
+length-trailerBytes n clock = refl
+
 module _ (n clock : ℕ) (r : Number n) (c : clock < 2 ^ 40) where
   -- each field of the bytes
   field : (at k v : ℕ) → v < 256 ^ k → part (trailerBytes n clock) at k ≡ bytesOf k v → wordAt k (trailerBytes n clock) at ≡ v
