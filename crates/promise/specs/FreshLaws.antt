@@ -1,27 +1,27 @@
 -- What a reader wants to know of a fresh image: its length, its trailer, and that it is sound: every header is zero, every block is
--- free, the map's spare bits are 0 and every count is 0.
+-- free, the map's spare bits are 0, every count is 0 and so is all data.
 -- Assumes nothing.
 use Prim.Native.Nat.{ℕ, _+_, _*_, _-_, _/_, _%_, _^_, _≤_, _<_}
 use mathlib.Core.Path.{_≡_, refl, sym, ap, _∙_}
-use mathlib.Core.Bool.{true, false}
-use mathlib.Core.List.{List, [], _∷_, map}
+use mathlib.Core.Bool.{true}
+use mathlib.Core.List.{List, [], _∷_}
 use native.Mathlib.Omega.{arith}
 use borrow.Author.Tests.{eqb-true}
 use lib.Dec.{eqb}
 use lib.ListN.{length, replicate}
-use Rattle.word.specs.Word.{part, le, blank, allZero}
-use Rattle.word.specs.Write.{Write, puts, Within, Spares}
-use Rattle.word.specs.Laws.{sizes, length-blank, length-puts, frames, got, part-part, part-replicate, part-blank, allZero-blank}
+use Rattle.word.specs.Word.{part, le, blank, allZero, Bytes}
+use Rattle.word.specs.Write.{over, Write, puts, Within, Spares}
+use Rattle.word.specs.Laws.{sizes, length-blank, length-puts, frames, got, part-part, part-replicate, part-blank, allZero-blank, bytes-over, bytes-replicate, bytes-blank}
 use Rattle.run.specs.Run.{allOf, times}
 use Rattle.run.specs.Laws.{all-each, picked-none}
-use Rattle.promise.specs.Layout.{numberRight, mapAt, countAt, trailerAt, sizeOf}
-use Rattle.promise.specs.Trailer.{nOf, clockOf, trailerRight, trailerBytes}
-use Rattle.promise.specs.Header.{headerOf, isUsed, ownerOf, goodHeader}
+use Rattle.promise.specs.Layout.{numberRight, mapAt, countAt, dataAt, trailerAt, sizeOf}
+use Rattle.promise.specs.Trailer.{trailerBytes}
+use Rattle.promise.specs.Header.{headerOf, isUsed, goodHeader}
 use Rattle.promise.specs.Map.{free, spareZero, good}
-use Rattle.promise.specs.Counts.{countsOf, countOf, owners, owned}
+use Rattle.promise.specs.Counts.{countOf, owners, owned, dataOf}
 use Rattle.promise.specs.Sound.{Sound}
 use Rattle.promise.specs.Format.{freshImage}
-use Rattle.promise.specs.TrailerLaws.{Number, number, length-trailerBytes, Ends, bytes-are-rule}
+use Rattle.promise.specs.TrailerLaws.{number, length-trailerBytes, bytes-trailerBytes, Ends, bytes-are-rule}
 
 -- each bit of a byte 255 is 1
 bits-of-255 : (i : ℕ) → i < 8 → 255 / 2 ^ i % 2 ≡ 1
@@ -39,6 +39,13 @@ module _ (n : ℕ) where
   pub fresh-length : length (freshImage n) ≡ sizeOf n
   unfolding freshImage
   fresh-length = length-puts writes (blank (sizeOf n)) within ∙ length-blank (sizeOf n)
+
+  pub fresh-bytes : Bytes (freshImage n)
+  unfolding freshImage puts
+  fresh-bytes =
+      bytes-over (over (blank (sizeOf n)) (mapAt n) (replicate (n / 8) 255)) (trailerAt n) (trailerBytes n 0)
+      (bytes-over (blank (sizeOf n)) (mapAt n) (replicate (n / 8) 255) (bytes-blank (sizeOf n)) (bytes-replicate (n / 8) 255 (omega arith)))
+      (bytes-trailerBytes n 0)
 
   -- what the two writes spare is zero
   zeroed : (a k : ℕ) → a + k ≤ sizeOf n → Spares a k writes → part (freshImage n) a k ≡ blank k
@@ -73,7 +80,7 @@ module _ (n : ℕ) where
     fresh-free b h =
         let k = number n r in
         let m : part (freshImage n) (mapAt n) (n / 8) ≡ replicate (n / 8) 255 =
-          simp sizes at (got 0 writes (blank (sizeOf n)) within (simp (sizes, length-trailerBytes) (omega arith))) in
+        simp sizes at (got 0 writes (blank (sizeOf n)) within (simp (sizes, length-trailerBytes) (omega arith))) in
         rw (← part-part (freshImage n) (mapAt n) (n / 8) (b / 8) 1 (omega arith), m, part-replicate (n / 8) 255 (b / 8) 1 (omega arith), bits-of-255 (b % 8) (omega arith))
 
     pub fresh-count : (u : ℕ) → u < 64 → countOf n (freshImage n) u ≡ 0
@@ -86,13 +93,19 @@ module _ (n : ℕ) where
     unfolding good goodHeader
     fresh-good b h = rw (fresh-ends .number-is, fresh-header b h, fresh-free b h, allZero-blank 64)
 
-    -- A FRESH IMAGE IS SOUND
-    pub fresh-sound : Sound (freshImage n)
-    fresh-sound =
-        let e = fresh-ends .number-is in
-        record {
-          trailer = fresh-ends .right;
-          headers = λ b l. fresh-good b (omega arith);
-          spare = rw e fresh-spare;
-          counts = λ u l. rw e (fresh-count u l ∙ sym (fresh-owned u));
-        }
+    pub fresh-data : (b : ℕ) → b < n → dataOf n (freshImage n) b ≡ blank 512
+    unfolding dataOf
+    fresh-data b h =
+        let k = number n r in
+        zeroed (dataAt n b) 512 (omega arith) (simp (sizes, length-trailerBytes) (omega arith))
+
+-- A FRESH IMAGE IS SOUND
+pub fresh-sound : (n : ℕ) → numberRight n ≡ true → Sound (freshImage n)
+fresh-sound n r =
+    let e = fresh-ends n r .number-is in
+    record {
+      trailer = fresh-ends n r .right;
+      headers = λ b l. fresh-good n r b (omega arith);
+      spare = rw e (fresh-spare n);
+      counts = λ u l. rw e (fresh-count n r u l ∙ sym (fresh-owned n u));
+    }

@@ -254,3 +254,32 @@ pub zero-blank : (l : List ℕ) → allZero l ≡ true → l ≡ blank (length l
 unfolding allZero blank
 zero-blank [] h = refl
 zero-blank (b ∷ bs) h = let w = both (eqb b 0) (allZero bs) h in ap₂ _∷_ (eqb-true b 0 (w .0)) (zero-blank bs (w .1))
+
+-- ---- what is made of bytes is bytes
+
+pub bytes-append : (xs ys : List ℕ) → Bytes xs → Bytes ys → Bytes (xs ++ ys)
+bytes-append [] ys h g i = g i
+bytes-append (x ∷ xs) ys h g zero = h 0
+bytes-append (x ∷ xs) ys h g (suc i) = bytes-append xs ys (λ i. h (suc i)) g i
+
+pub bytes-over : (l : List ℕ) (at : ℕ) (vs : List ℕ) → Bytes l → Bytes vs → Bytes (over l at vs)
+unfolding over part
+bytes-over l at vs h g =
+    bytes-append (take at l ++ vs) (drop (at + length vs) l)
+    (bytes-append (take at l) vs (bytes-part l 0 at h) g)
+    (λ i. rw getD-drop (h (at + length vs + i)))
+
+pub bytes-bytesOf : (k v : ℕ) → Bytes (bytesOf k v)
+unfolding bytesOf
+bytes-bytesOf zero v i = omega arith
+bytes-bytesOf (suc k) v zero = omega arith
+bytes-bytesOf (suc k) v (suc i) = bytes-bytesOf k (v / 256) i
+
+pub bytes-replicate : (k v : ℕ) → v < 256 → Bytes (replicate k v)
+bytes-replicate zero v h i = omega arith
+bytes-replicate (suc k) v h zero = h
+bytes-replicate (suc k) v h (suc i) = bytes-replicate k v h i
+
+pub bytes-blank : (k : ℕ) → Bytes (blank k)
+unfolding blank
+bytes-blank k = bytes-replicate k 0 (omega arith)
