@@ -1,4 +1,4 @@
--- Writes that follow one another, with or without bytes between them that stand there already: how a fresh image's trailer comes about.
+-- How Format's writes make a fresh image: its trailer, from numbers that follow one another and a mark after zeros, and the whole.
 -- Assumes nothing.
 use Prim.Native.Nat.{ℕ, _+_, _/_, _≤_}
 use mathlib.Core.Path.{_≡_, refl, sym, ap, _∙_}
@@ -12,9 +12,10 @@ use Rattle.word.specs.Write.{over, puts}
 use Rattle.word.specs.Laws.{sizes, length-over, length-blank, frame, part-part, part-blank, over-same, over-whole, over-append}
 use Rattle.kinds.specs.declared.Report.the-variants.{Success, BadImage}
 use Rattle.promise.specs.Layout.{numberRight, mapAt, trailerAt, sizeOf}
-use Rattle.promise.specs.Trailer.{backToHeaders, backToMap, backToCounts, backToData, trailerBytes}
+use Rattle.promise.specs.Trailer.{trailerBytes}
 use Rattle.promise.specs.Format.{freshImage, formatRight, formatReport, formatImage, FormatPromise}
 use Rattle.promise.specs.TrailerLaws.{number}
+use Rattle.image.specs.Fresh.{numbers}
 use Rattle.image.specs.Image.{Laid}
 
 -- a write right after another
@@ -44,10 +45,6 @@ five l at a b c d e h =
       next l at 12 (bytesOf 4 a ++ bytesOf 4 b ++ bytesOf 4 c) (bytesOf 4 d) refl h,
       next l at 16 (bytesOf 4 a ++ bytesOf 4 b ++ bytesOf 4 c ++ bytesOf 4 d) (bytesOf 4 e) refl h,
     )
-
--- N and the distances
-abbrev pub numbers : ℕ → List ℕ
-numbers n = bytesOf 4 n ++ bytesOf 4 (backToHeaders n) ++ bytesOf 4 (backToMap n) ++ bytesOf 4 (backToCounts n) ++ bytesOf 4 (backToData n)
 
 -- the numbers and the mark make the trailer where there were zeros
 pub trailer-made : (l : List ℕ) (n : ℕ) → length l ≡ sizeOf n → part l (trailerAt n) 512 ≡ blank 512

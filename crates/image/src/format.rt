@@ -1,17 +1,18 @@
 // Format: a fresh image of n service blocks.
 ghost use mathlib.Core.Path.{_≡_};
-ghost use mathlib.Core.List.{_++_};
 ghost use Prim.Native.Nat.{_+_, _≤_};
 ghost use lib.ListN.{length};
-ghost use Rattle.word.specs.Word.{part, bytesOf, blank};
+ghost use Rattle.word.specs.Word.{part, blank};
 ghost use Rattle.word.specs.Write.{over};
 ghost use Rattle.promise.specs.Layout.{numberRight, trailerAt};
-ghost use Rattle.promise.specs.Trailer.{backToHeaders, backToMap, backToCounts, backToData, trailerBytes};
+ghost use Rattle.promise.specs.Trailer.{trailerBytes};
 ghost use Rattle.promise.specs.Format.{FormatPromise};
 ghost use Rattle.promise.specs.TrailerLaws.{Number};
+ghost use Rattle.image.specs.Fresh.{numbers};
 ghost use Rattle.image.specs.Image.{Laid};
 use kinds::Report;
 
+// N is a multiple of 8 from 8 to 4,096.
 fn number_right(n: usize) -> bool
     ensures { λ r. ⌜ r ≡ numberRight n ⌝ }
 {
@@ -21,7 +22,7 @@ fn number_right(n: usize) -> bool
 // The trailer's first five numbers: N and the distances.
 fn write_numbers(img: &mut [u8], at: usize, n: usize)
     requires { ⌜ Number n × (at + 20 ≤ length (now img)) ⌝ }
-    ensures { λ _. ⌜ now (img .exit) ≡ over (now (img .entry)) at (bytesOf 4 n ++ bytesOf 4 (backToHeaders n) ++ bytesOf 4 (backToMap n) ++ bytesOf 4 (backToCounts n) ++ bytesOf 4 (backToData n)) ⌝ }
+    ensures { λ _. ⌜ now (img .exit) ≡ over (now (img .entry)) at (numbers n) ⌝ }
 {
     let m = n as u32;
     word::put32(img, at, m);

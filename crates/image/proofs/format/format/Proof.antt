@@ -1,12 +1,10 @@
--- `image::format::format` meets its contract.
+-- `image::format::format` meets its contract: it refuses where the definition does, and else its three writes make the fresh image.
 -- Assumes nothing.
 use mathlib.Core.Path.{_≡_, sym, _∙_}
 use mathlib.Core.Bool.{true, false, and-false}
 use borrow.Author.Needs.{needs}
 use borrow.Author.Tests.{ne-eqb, not-true, not-false}
-use denote.Ref.{now}
-use lib.ListN.{length}
-use Rattle.promise.specs.Layout.{numberRight, sizeOf}
+use Rattle.promise.specs.Layout.{numberRight}
 use Rattle.image.proofs.Fresh.{mapped, ready, formatted, refused}
 use Rattle.image.proofs.format.format.Statement.{statement}
 use Rattle.image.proofs.format.format.Tie as tie
