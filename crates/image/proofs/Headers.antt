@@ -1,7 +1,7 @@
 -- A header's rule in the parts that the code tests, and a header and a service block as the code writes them, piece by piece.
 -- Assumes nothing.
 use Prim.Native.Nat.{ℕ, _+_, _-_, _*_, _≤_, _<_}
-use mathlib.Core.Path.{_≡_, refl, sym, ap, ap₂, _∙_}
+use mathlib.Core.Path.{_≡_, refl, sym, ap, _∙_}
 use mathlib.Core.Bool.{Bool, true, false, _&&_, and-true, and-false, or-false}
 use mathlib.Core.List.{List, [], _∷_, _++_, append-nil}
 use native.Mathlib.Omega.{arith}
@@ -18,6 +18,7 @@ use Rattle.promise.specs.Layout.{countAt, dataAt}
 use Rattle.promise.specs.Header.{headerOf, idIn, createdOf, usedRight, goodHeader, headerBytes}
 use Rattle.promise.specs.Map.{free, good}
 use Rattle.promise.specs.Counts.{countOf, dataOf, serviceBlock}
+use Rattle.image.proofs.Pieces.{next}
 use Rattle.image.specs.Image.{Known, shapeTests, timeTests}
 
 -- ---- the rule of a used header in parts
@@ -63,14 +64,6 @@ unfolding good headerOf
 good-at img n clock b f k e = rw (lent-part img (64 * b) (64 * b + 64) 64 refl, k .its-n, k .its-clock, e)
 
 -- ---- a header, written piece by piece
-
--- X is l with xs from a place on, k bytes; and with the next m bytes after them
-abbrev Begun : (l : List ℕ) (at : ℕ) (X xs : List ℕ) (k : ℕ) → Type 0
-Begun l at X xs k = (X ≡ over l at xs) × (length xs ≡ k)
-
-next : (l : List ℕ) (at : ℕ) → at ≤ length l → (X xs : List ℕ) (k : ℕ) → Begun l at X xs k → (ys : List ℕ) (m : ℕ) → length ys ≡ m → Begun l at (over X (at + k) ys) (xs ++ ys) (k + m)
-next l at h X xs k b ys m e =
-    (ap₂ (λ r (x : ℕ). over r (at + x) ys) (b .0) (sym (b .1)) ∙ over-append l at xs ys h, length-append xs ys ∙ ap₂ _+_ (b .1) e)
 
 pub header-written : (l : List ℕ) (at owner id created expires : ℕ) (tag : List ℕ) → at ≤ length l → length tag ≡ 16
     → over (over (over (over (over (over (over (over l at (bytesOf 1 1)) (at + 1) (bytesOf 1 owner)) (at + 2) (blank 6)) (at + 8) (bytesOf 8 id)) (at + 16) (bytesOf 8 created)) (at + 24) (bytesOf 8 expires)) (at + 32) tag) (at + 48) (blank 16)

@@ -3,6 +3,7 @@ ghost use mathlib.Core.Path.{_≡_};
 ghost use mathlib.Core.Bool.{_&&_};
 
 pub mod counts;
+pub mod format;
 pub mod header;
 pub mod map;
 pub mod sound;

@@ -25,3 +25,4 @@ pub mod RefusalLaws
 pub mod KeyLaws
 pub mod CallLaws
 pub mod Laws
+pub mod FreshLaws

@@ -11,7 +11,7 @@ use lib.Dec.{eqb, leb}
 use lib.ListN.{length}
 use Rattle.plain.specs.Tests.{both, nth, also, done}
 use Rattle.word.specs.Word.{part, le, wordAt, bytesOf, blank, allZero, Bytes}
-use Rattle.word.specs.Laws.{length-part, part-whole, part-split, bytes-part, word-bytes, le-bytesOf, zero-blank, allZero-blank}
+use Rattle.word.specs.Laws.{length-part, part-whole, part-split, bytes-part, word-bytes, le-bytesOf, zero-blank, allZero-blank, bytes-append, bytes-bytesOf, bytes-blank}
 use Rattle.promise.specs.Layout.{numberRight, trailerAt, sizeOf}
 use Rattle.promise.specs.Trailer.{trailerOf, nOf, clockOf, backToHeaders, backToMap, backToCounts, backToData, mark, rightTrailer, trailerRight, trailerBytes}
 
@@ -105,6 +105,16 @@ rule-is-bytes img b h =
     ∙ rule-bytes t n (bytes-part img (length img - 512) 512 b) (length-part img (length img - 512) 512 (omega arith)) k refl
 
 -- ---- from the bytes to the rule
+
+pub length-trailerBytes : (n clock : ℕ) → length (trailerBytes n clock) ≡ 512
+unfolding trailerBytes bytesOf blank
+length-trailerBytes n clock = refl
+
+pub bytes-trailerBytes : (n clock : ℕ) → Bytes (trailerBytes n clock)
+unfolding trailerBytes
+bytes-trailerBytes n clock =
+    let m : Bytes mark = rw mark-bytes at (bytes-bytesOf 4 (le mark)) in
+    search (bytes-append, bytes-bytesOf, bytes-blank, m) depth 9 fits 20000
 
 module _ (n clock : ℕ) (r : Number n) (c : clock < 2 ^ 40) where
   -- each field of the bytes

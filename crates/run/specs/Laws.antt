@@ -205,6 +205,11 @@ module _ (p : ℕ → Bool) where
   picked-few b zero = omega arith
   picked-few b (suc k) = rw length-append (omega (arith, one-le b, length-just b, picked-few (b + 1) k))
 
+  pub picked-none : (b k : ℕ) → ((x : ℕ) → b ≤ x → x < b + k → p x ≡ false) → picked p b k ≡ []
+  unfolding picked
+  picked-none b zero h = refl
+  picked-none b (suc k) h = rw (just-no b (h b (omega arith) (omega arith)), picked-none (b + 1) k (λ x l u. h x (omega arith) (omega arith)))
+
   -- ---- a run is what its two parts are
 
   pub picked-append : (b k m : ℕ) → picked p b (k + m) ≡ picked p b k ++ picked p (b + k) m

@@ -3,17 +3,17 @@
 use Prim.Native.Nat.{ℕ, zero, suc, _+_, _*_, _-_, _/_, _%_, _≤_, _<_}
 use mathlib.Core.Path.{_≡_, refl, _∙_}
 use mathlib.Core.Bool.{_&&_, and-assoc}
-use mathlib.Core.List.{List, [], _∷_, _++_, append-nil}
+use mathlib.Core.List.{List, [], _∷_, _++_}
 use native.Mathlib.Numerals.{add-one}
 use native.Mathlib.Omega.{arith}
 use borrow.Author.Tests.{ne-eqb}
 use lib.Bits.{bitOr, or-add-and, and-le-r}
 use lib.Dec.{eqb}
-use lib.ListN.{length, drop, getD, set, take-append-drop, drop-of-length-le}
+use lib.ListN.{length, drop, getD, set, replicate, take-append-drop}
 use lib.Seq.{sets, sets-eq, drop-cons, drop-drop}
-use Rattle.word.specs.Word.{part, le, wordAt, bytesOf, blank, allZero}
+use Rattle.word.specs.Word.{part, le, wordAt, bytesOf, allZero}
 use Rattle.word.specs.Write.{over}
-use Rattle.word.specs.Laws.{length-part, over-append}
+use Rattle.word.specs.Laws.{length-part, over-whole, over-append}
 
 -- ---- a part, from its first byte on
 
@@ -53,14 +53,13 @@ store-one l x v vs = rw add-one
 pub store-turn : (l : List ℕ) (at i v : ℕ) (vs : List ℕ) → storing (set l (at + i) v) (at + (i + 1)) vs ≡ storing l (at + i) (v ∷ vs)
 store-turn l at i v vs = let e : at + (i + 1) ≡ at + i + 1 = omega arith in rw e (store-one l (at + i) v vs)
 
--- the bytes of a number, of a run of zeros and of a list that are left after i
+-- the bytes of a number, of a run of one byte and of a list that are left after i
 pub bytesOf-turn : (k i v : ℕ) → i < k → bytesOf (k - i) v ≡ v % 256 ∷ bytesOf (k - (i + 1)) (v / 256)
 unfolding bytesOf
 bytesOf-turn k i v h = let e : k - i ≡ suc (k - (i + 1)) = omega arith in rw e
 
-pub blank-turn : (k i : ℕ) → i < k → blank (k - i) ≡ 0 ∷ blank (k - (i + 1))
-unfolding blank
-blank-turn k i h = let e : k - i ≡ suc (k - (i + 1)) = omega arith in rw e
+pub fill-turn : (k i v : ℕ) → i < k → replicate (k - i) v ≡ v ∷ replicate (k - (i + 1)) v
+fill-turn k i v h = let e : k - i ≡ suc (k - (i + 1)) = omega arith in rw e
 
 pub drop-turn : (l : List ℕ) (i : ℕ) → i < length l → drop i l ≡ getD l i 0 ∷ drop (i + 1) l
 drop-turn l i h = rw (drop-cons l i 0 h, add-one)
@@ -76,8 +75,7 @@ stored l at vs h = sets-eq vs l at h
 
 -- as many bytes as there are
 pub stored-whole : (l vs : List ℕ) → length vs ≡ length l → storing l 0 vs ≡ vs
-unfolding over
-stored-whole l vs h = stored l 0 vs (omega arith) ∙ rw (drop-of-length-le l {i = 0 + length vs} (omega arith)) (append-nil vs)
+stored-whole l vs h = stored l 0 vs (omega arith) ∙ over-whole l vs h
 
 -- ---- a loop over whole pieces: a piece of what is left, and the rest
 

@@ -10,7 +10,7 @@ use native.Mathlib.Nat.{add-zero, pow-suc, pow-zero, div-lt-iff-lt-mul, le-of-eq
 use native.Mathlib.Omega.{arith}
 use borrow.Author.Tests.{eqb-true}
 use lib.Dec.{eqb, lit<}
-use lib.ListN.{length, take, drop, getD, length-append, length-take, length-drop, take-append-drop, List·getD-append, List·getD-eq-default}
+use lib.ListN.{length, take, drop, getD, length-append, length-take, length-drop, take-append-drop, drop-of-length-le, replicate, length-replicate, getD-replicate, List·getD-append, List·getD-eq-default}
 use lib.Seq.{getD-take, getD-drop, getD-append-add, ext-getD, take-append-seam, drop-append-add, take-at, drop-at, drop-drop, take-all}
 use Rattle.plain.specs.Numbers.{lt-or-le}
 use Rattle.plain.specs.Tests.{both}
@@ -30,15 +30,14 @@ length-bytesOf (suc k) v = ap suc (length-bytesOf k _)
 
 pub length-blank : (k : ℕ) → length (blank k) ≡ k
 unfolding blank
-length-blank zero = refl
-length-blank (suc k) = ap suc (length-blank k)
+length-blank k = length-replicate k 0
 
 pub length-over : (l : List ℕ) (at : ℕ) (vs : List ℕ) → at + length vs ≤ length l → length (over l at vs) ≡ length l
 unfolding over
 length-over l at vs h = simp (length-append, length-take, length-drop) (omega arith)
 
 -- what the places of writes are compared by: `simp sizes (omega arith)` shows Within, Spares and Stays
-pub ruleset sizes = (length-bytesOf, length-blank)
+pub ruleset sizes = (length-bytesOf, length-blank, length-replicate)
 
 -- ---- parts
 
@@ -126,6 +125,23 @@ module _ (l : List ℕ) (at : ℕ) (vs : List ℕ) (h : at + length vs ≤ lengt
 pub over-nil : (l : List ℕ) (at : ℕ) → over l at [] ≡ l
 unfolding over
 over-nil l at = rw (append-nil, add-zero) (take-append-drop at l)
+
+-- to write what stands there changes nothing
+rest : (l : List ℕ) (at k : ℕ) → take at l ++ (part l at k ++ drop (at + k) l) ≡ l
+unfolding part
+rest l at k = rw (← drop-drop k at l, take-append-drop k (drop at l)) (take-append-drop at l)
+
+over-part : (l : List ℕ) (at k : ℕ) → at + k ≤ length l → over l at (part l at k) ≡ l
+unfolding over
+over-part l at k h = rw (length-part l at k h, append-assoc) (rest l at k)
+
+pub over-same : (l : List ℕ) (at : ℕ) (vs : List ℕ) → at + length vs ≤ length l → part l at (length vs) ≡ vs → over l at vs ≡ l
+over-same l at vs h e = ap (over l at) (sym e) ∙ over-part l at (length vs) h
+
+-- to write all leaves nothing of what was
+pub over-whole : (l vs : List ℕ) → length vs ≡ length l → over l 0 vs ≡ vs
+unfolding over
+over-whole l vs h = rw (drop-of-length-le l {i = 0 + length vs} (omega arith)) (append-nil vs)
 
 -- two writes one after the other are one
 pub over-append : (l : List ℕ) (at : ℕ) (xs ys : List ℕ) → at ≤ length l → over (over l at xs) (at + length xs) ys ≡ over l at (xs ++ ys)
@@ -216,7 +232,17 @@ pub word-same : (k : ℕ) (l : List ℕ) (at v : ℕ) → at + k ≤ length l �
 word-same k l at v h b =
     ap le (rw length-bytesOf at (same l at (bytesOf k v) (rw length-bytesOf h))) ∙ le-bytesOf k v b
 
--- ---- runs of zeros
+-- ---- runs of one byte, and of zeros
+
+pub part-replicate : (k v at n : ℕ) → at + n ≤ k → part (replicate k v) at n ≡ replicate n v
+part-replicate k v at n h =
+    ext-getD 0 (part (replicate k v) at n) (replicate n v) (simp (length-part-any, length-replicate) (omega arith))
+    (λ i p. let b : i < n = omega (arith, simp (length-part-any, length-replicate) at p) in
+    rw (getD-part (replicate k v) at n i b, getD-replicate k (at + i) v 0 (omega arith), getD-replicate n i v 0 b))
+
+pub part-blank : (k at n : ℕ) → at + n ≤ k → part (blank k) at n ≡ blank n
+unfolding blank
+part-blank k at n h = part-replicate k 0 at n h
 
 pub allZero-blank : (k : ℕ) → allZero (blank k) ≡ true
 unfolding allZero blank
@@ -228,3 +254,32 @@ pub zero-blank : (l : List ℕ) → allZero l ≡ true → l ≡ blank (length l
 unfolding allZero blank
 zero-blank [] h = refl
 zero-blank (b ∷ bs) h = let w = both (eqb b 0) (allZero bs) h in ap₂ _∷_ (eqb-true b 0 (w .0)) (zero-blank bs (w .1))
+
+-- ---- what is made of bytes is bytes
+
+pub bytes-append : (xs ys : List ℕ) → Bytes xs → Bytes ys → Bytes (xs ++ ys)
+bytes-append [] ys h g i = g i
+bytes-append (x ∷ xs) ys h g zero = h 0
+bytes-append (x ∷ xs) ys h g (suc i) = bytes-append xs ys (λ i. h (suc i)) g i
+
+pub bytes-over : (l : List ℕ) (at : ℕ) (vs : List ℕ) → Bytes l → Bytes vs → Bytes (over l at vs)
+unfolding over part
+bytes-over l at vs h g =
+    bytes-append (take at l ++ vs) (drop (at + length vs) l)
+    (bytes-append (take at l) vs (bytes-part l 0 at h) g)
+    (λ i. rw getD-drop (h (at + length vs + i)))
+
+pub bytes-bytesOf : (k v : ℕ) → Bytes (bytesOf k v)
+unfolding bytesOf
+bytes-bytesOf zero v i = omega arith
+bytes-bytesOf (suc k) v zero = omega arith
+bytes-bytesOf (suc k) v (suc i) = bytes-bytesOf k (v / 256) i
+
+pub bytes-replicate : (k v : ℕ) → v < 256 → Bytes (replicate k v)
+bytes-replicate zero v h i = omega arith
+bytes-replicate (suc k) v h zero = h
+bytes-replicate (suc k) v h (suc i) = bytes-replicate k v h i
+
+pub bytes-blank : (k : ℕ) → Bytes (blank k)
+unfolding blank
+bytes-blank k = bytes-replicate k 0 (omega arith)

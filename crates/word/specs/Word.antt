@@ -3,7 +3,7 @@ use Prim.Native.Nat.{ℕ, zero, suc, _+_, _*_, _/_, _%_, _^_, _<_}
 use mathlib.Core.Bool.{Bool, true, _&&_}
 use mathlib.Core.List.{List, [], _∷_}
 use lib.Dec.{eqb}
-use lib.ListN.{take, drop, getD}
+use lib.ListN.{take, drop, getD, replicate}
 
 -- the k bytes from a place
 unfoldable pub part : List ℕ → ℕ → ℕ → List ℕ
@@ -29,8 +29,7 @@ Spelled k v = v < 256 ^ k
 
 -- k zero bytes
 unfoldable pub blank : ℕ → List ℕ
-blank zero = []
-blank (suc k) = 0 ∷ blank k
+blank k = replicate k 0
 
 -- every byte is zero
 unfoldable pub allZero : List ℕ → Bool

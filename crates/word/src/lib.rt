@@ -1,7 +1,7 @@
 // Little-endian numbers and runs of bytes, read from and written to a lent slice.
 ghost use mathlib.Core.Path.{_≡_};
 ghost use Prim.Native.Nat.{_+_, _≤_, _<_};
-ghost use lib.ListN.{length};
+ghost use lib.ListN.{length, replicate};
 ghost use Rattle.word.specs.Word.{part, wordAt, bytesOf, blank, allZero};
 ghost use Rattle.word.specs.Write.{over};
 
@@ -76,16 +76,24 @@ pub fn put64(s: &mut [u8], at: usize, v: u64)
     write(s, at, 8, v)
 }
 
+// Makes each of k bytes from a place v.
+pub fn fill(s: &mut [u8], at: usize, k: usize, v: u8)
+    requires { ⌜ at + k ≤ length (now s) ⌝ }
+    ensures { λ _. ⌜ now (s .exit) ≡ over (now (s .entry)) at (replicate k v) ⌝ }
+{
+    let mut i = 0;
+    while i < k {
+        s[at + i] = v;
+        i += 1;
+    }
+}
+
 // Zeroes k bytes from a place.
 pub fn clear(s: &mut [u8], at: usize, k: usize)
     requires { ⌜ at + k ≤ length (now s) ⌝ }
     ensures { λ _. ⌜ now (s .exit) ≡ over (now (s .entry)) at (blank k) ⌝ }
 {
-    let mut i = 0;
-    while i < k {
-        s[at + i] = 0;
-        i += 1;
-    }
+    fill(s, at, k, 0)
 }
 
 // Copies all of src to a place, byte by byte.
