@@ -6,3 +6,4 @@ pub mod Reports
 pub mod Client
 pub mod Manager
 pub mod Tariff
+pub mod Walk
