@@ -25,7 +25,10 @@ module _ (k : Constants) where
   pub end-key : KeySet k (EndKey k) ≈ k .BlockId
   end-key x = ⊎-elim (λ (e : k .BlockId x ≡ true). rw (e, lt-ltb _ _ (k .numbered x e))) (λ (e : k .BlockId x ≡ false). rw e) (decide (k .BlockId x))
 
-  -- an id of xs whose number is from one key on and below another
+  -- the subset of xs between two keys, and in numbers: the ids of xs whose number is from one key on and below the other
+  abbrev pub part : (key? key! : ℕ) → Set → Set
+  part key? key! xs = (KeySet k key! ∖ KeySet k key?) ∩ xs
+
   pub record Between (key? key! : ℕ) (xs : Set) (x : ℕ) : Type 0 where
     pub id : x ∈ k .BlockId
     pub from : key? ≤ k .num x
@@ -33,10 +36,10 @@ module _ (k : Constants) where
     pub listed : x ∈ xs
 
   module _ (key? key! : ℕ) where
-    pub between-in : (xs : Set) (x : ℕ) → Between key? key! xs x → x ∈ (KeySet k key! ∖ KeySet k key?) ∩ xs
+    pub between-in : (xs : Set) (x : ℕ) → Between key? key! xs x → x ∈ part key? key! xs
     between-in xs x b = rw (b .id, lt-ltb _ _ (b .below), le-ltb _ _ (b .from), b .listed)
 
-    pub between-out : (xs : Set) (x : ℕ) → x ∈ (KeySet k key! ∖ KeySet k key?) ∩ xs → Between key? key! xs x
+    pub between-out : (xs : Set) (x : ℕ) → x ∈ part key? key! xs → Between key? key! xs x
     between-out xs x e =
         let d = both ((KeySet k key! ∖ KeySet k key?) x) (xs x) e in
         let c = both (KeySet k key! x) (not (KeySet k key? x)) (d .0) in

@@ -7,3 +7,4 @@ pub mod Client
 pub mod Manager
 pub mod Tariff
 pub mod Walk
+pub mod Scan

@@ -60,7 +60,7 @@ abbrev pub put : Blocks → ℕ → Block → Blocks
 put m i b x = cond (eqb x i) (some b) (m x)
 
 -- X ⩤ m
-infixr 40 _⩤_
+infixr 30 _⩤_
 abbrev pub _⩤_ : Set → Blocks → Blocks
 (X ⩤ m) x = cond (X x) none (m x)
 

@@ -1,0 +1,58 @@
+-- From block numbers to the key-linked operations. Document 01: a call visits the block numbers from the key upward, at most 64 and not past
+-- the last; GetIds also stops as soon as it has named the asked count.
+use Prim.Native.Nat.{ℕ, _+_, _-_, _≤_, _<_, min}
+use mathlib.Core.Path.{_≡_}
+use mathlib.Core.Bool.{Bool, true}
+use mathlib.Core.List.{List, map}
+use mathlib.Core.Option.{some}
+use lib.ListN.{length}
+use Rattle.run.specs.Run.{picked, visits}
+use Rattle.manual.specs.Sets.{Set, _∈_, _∩_, _∖_, _≈_}
+use Rattle.manual.specs.Given.{Constants}
+use Rattle.manual.specs.State.{BlockInfo, SS, φBasicParams, dom, owned, expired, _⩤_, ΔSS, ΞSS}
+use Rattle.manual.specs.Frames.{EndKey, KeySet}
+use Rattle.manual.specs.Reports.{Success}
+use Rattle.manual.specs.Client.{GetIds}
+use Rattle.manual.specs.Manager.{infoOf, Scavenge, Profile}
+use Rattle.manual.specs.Walk.{Call}
+
+module _ (k : Constants) where
+  -- how a set of ids shows in the block numbers: each number that passes the test holds an id of the set, and each id of the set stands at
+  -- its own number
+  pub record Shows (xs : Set) (test : ℕ → Bool) (idAt : ℕ → ℕ) : Type 0 where
+    pub holds : (b : ℕ) → b < k .MaxBlocks → test b ≡ true → (idAt b ∈ xs) × (k .num (idAt b) ≡ b)
+    pub stands : (x : ℕ) → x ∈ xs → (x ∈ k .BlockId) × (test (k .num x) ≡ true) × (idAt (k .num x) ≡ x)
+
+  -- how many numbers are visited: by Scavenge and Profile, and by GetIds
+  abbrev pub reach : (key? : ℕ) → ℕ
+  reach key? = min 64 (k .MaxBlocks - key?)
+
+  abbrev pub reachFor : (ℕ → Bool) → (count? key? : ℕ) → ℕ
+  reachFor test count? key? = visits test (reach key?) count? key?
+
+  -- the key that is returned: the number after the last one visited, the end key after the last of all
+  abbrev pub keyAfter : (ℕ → Bool) → (key? visited : ℕ) → ℕ
+  keyAfter test key? visited = key? + visited
+
+  -- the ids that are named: those at the visited numbers that pass, rising
+  abbrev pub idsOf : (ℕ → Bool) → (ℕ → ℕ) → (key? visited : ℕ) → List ℕ
+  idsOf test idAt key? visited = map idAt (picked test key? visited)
+
+  -- what is proved of a scan of block numbers (proofs/Scan.antt)
+  pub record Scans : Type 0 where
+    -- whatever the set: it is φKey's subset, and passes as many numbers as it visits
+    pub call : {xs : Set} {test : ℕ → Bool} {idAt : ℕ → ℕ} → Shows xs test idAt
+        → (key? visited : ℕ) → 0 < visited → key? + visited ≤ EndKey k
+        → Call k xs key? (keyAfter test key? visited) visited (idsOf test idAt key? visited)
+    pub getIds : {p : φBasicParams} {s s′ : SS} {test : ℕ → Bool} {idAt : ℕ → ℕ} → Shows (owned (p .clientnum) (s .blocks)) test idAt
+        → (key? count? : ℕ) → key? < EndKey k → 0 < count? → Success p → ΞSS s s′
+        → GetIds k p s s′ key? count? (keyAfter test key? (reachFor test count? key?)) (idsOf test idAt key? (reachFor test count? key?))
+    pub scavenge : {p : φBasicParams} {s s′ : SS} {test : ℕ → Bool} {idAt : ℕ → ℕ} → Shows (expired (p .now) (s .blocks)) test idAt
+        → (key? : ℕ) → key? < EndKey k → p .clientnum ≡ k .Manager → Success p
+        → s′ .blocks ≈ (KeySet k (keyAfter test key? (reach key?)) ∖ KeySet k key?) ∩ expired (p .now) (s .blocks) ⩤ s .blocks
+        → ΔSS k p s s′
+        → Scavenge k p s s′ key? (keyAfter test key? (reach key?)) (length (picked test key? (reach key?)))
+    pub profile : {p : φBasicParams} {s s′ : SS} {test : ℕ → Bool} {idAt : ℕ → ℕ} → Shows (dom (s .blocks)) test idAt
+        → (key? : ℕ) → key? < EndKey k → p .clientnum ≡ k .Manager → Success p → ΞSS s s′
+        → (infoseq! : List BlockInfo) → map some infoseq! ≡ map (λ x. infoOf (s .blocks x)) (idsOf test idAt key? (reach key?))
+        → Profile k p s s′ key? (keyAfter test key? (reach key?)) infoseq!
