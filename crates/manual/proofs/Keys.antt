@@ -11,10 +11,7 @@ use Rattle.plain.specs.Tests.{both, decide}
 use Rattle.manual.specs.Sets.{Set, _∈_, _∉_, ∅, _∩_, _∖_, _⊆_, _⊂_, _≈_}
 use Rattle.manual.specs.Given.{Constants}
 use Rattle.manual.specs.Frames.{StartKey, EndKey, KeySet, φKey}
-
-pub out-of : (t : Bool) → (t ≡ true → ⊥) → t ≡ false
-out-of true h = absurd (h refl)
-out-of false h = refl
+use Rattle.manual.proofs.Maps.{out-of}
 
 module _ (k : Constants) where
   -- KeySet(StartKey) = ∅

@@ -18,7 +18,8 @@ use Rattle.manual.specs.Given.{Constants}
 use Rattle.manual.specs.Frames.{EndKey, φKey}
 use Rattle.manual.specs.Walk.{Call}
 use Rattle.manual.specs.Scan.{Shows, reach, reachFor, keyAfter, idsOf, Scans}
-use Rattle.manual.proofs.Keys.{out-of, part, Between, between-in, between-out, larger-set}
+use Rattle.manual.proofs.Maps.{out-of}
+use Rattle.manual.proofs.Keys.{part, Between, between-in, between-out, larger-set}
 
 -- eqb x u and eqb y v agree where x is u exactly if y is v
 agree : (x u y v : ℕ) → (x ≡ u → y ≡ v) → (y ≡ v → x ≡ u) → eqb x u ≡ eqb y v
@@ -112,7 +113,7 @@ scans k =
             λ n. n m,
             inr (
               λ b. omega arith,
-              (record { subxs = _; keys = keys k h key? _ fits (omega arith); order = _; ordered = lists k h key? _ fits; infoseq = infos; same = same }, ok),
+              (record { subxs = _; keys = keys k h key? _ fits (omega arith); ordered = lists k h key? _ fits; infoseq = infos; same = same }, ok),
             ),
           );
     }

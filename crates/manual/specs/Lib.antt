@@ -8,3 +8,5 @@ pub mod Manager
 pub mod Tariff
 pub mod Walk
 pub mod Scan
+pub mod Kept
+pub mod Settled

@@ -30,12 +30,11 @@ abbrev pub infoOf : Option Block → Option BlockInfo
 infoOf none = none
 infoOf (some b) = some (info b)
 
-module _ (k : Constants) (p : φBasicParams) (s s′ : SS) (key? key! : ℕ) (infoseq! : List BlockInfo) where
+module _ (k : Constants) (p : φBasicParams) (s s′ : SS) (key? key! : ℕ) (order : List ℕ) (infoseq! : List BlockInfo) where
   -- xs = dom blocks, dom order = 1..#subxs, ran order = subxs, infoseq! = λ i : dom order • blocks(order(i)) ↾ BlockInfo
   pub record Profile-success : Type 0 where
     pub subxs : Set
     pub keys : φKey k key? key! (dom (s .blocks)) subxs
-    pub order : List ℕ
     pub ordered : Lists order subxs
     pub infoseq : map some infoseq! ≡ map (λ x. infoOf (s .blocks x)) order
     pub same : ΞSS s s′

@@ -55,4 +55,4 @@ module _ (k : Constants) where
     pub profile : {p : φBasicParams} {s s′ : SS} {test : ℕ → Bool} {idAt : ℕ → ℕ} → Shows (dom (s .blocks)) test idAt
         → (key? : ℕ) → key? < EndKey k → p .clientnum ≡ k .Manager → Success p → ΞSS s s′
         → (infoseq! : List BlockInfo) → map some infoseq! ≡ map (λ x. infoOf (s .blocks x)) (idsOf test idAt key? (reach key?))
-        → Profile k p s s′ key? (keyAfter test key? (reach key?)) infoseq!
+        → Profile k p s s′ key? (keyAfter test key? (reach key?)) (idsOf test idAt key? (reach key?)) infoseq!
