@@ -16,12 +16,16 @@ pub record Same (r r′ : Report) (s′ s″ : SS) (outputs : Type 0) : Type 0 w
   pub state : ΞSS s′ s″
   pub results : r ≡ SuccessReport → outputs
 
+-- a call by clientnum at now, and its report
+abbrev pub by : (clientnum now : ℕ) → Report → φBasicParams
+by clientnum now report = record { clientnum = clientnum; now = now; report! = report }
+
 -- an operation, as a relation of the basic parameters, the states before and after, and the outputs, has one outcome for one call
 abbrev pub Settles : {A : Type 0} → (φBasicParams → SS → SS → A → Type 0) → (A → A → Type 0) → Type 0
 Settles {A} operation alike =
     (clientnum now : ℕ) (r r′ : Report) (s s′ s″ : SS) (a a′ : A)
-    → operation (record { clientnum = clientnum; now = now; report! = r }) s s′ a
-    → operation (record { clientnum = clientnum; now = now; report! = r′ }) s s″ a′
+    → operation (by clientnum now r) s s′ a
+    → operation (by clientnum now r′) s s″ a′
     → Same r r′ s′ s″ (alike a a′)
 
 pub record Settled (k : Constants) : Type 0 where
