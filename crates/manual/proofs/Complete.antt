@@ -1,10 +1,10 @@
 -- Every walk from the start key is complete.
 -- Assumes nothing.
-use Prim.Native.Nat.{ℕ, suc, _+_, _≤_, _<_}
+use Prim.Native.Nat.{ℕ, suc, _+_, _-_, _≤_, _<_}
 use mathlib.Core.Path.{_≡_, refl, sym, _∙_, ap}
 use mathlib.Core.Bool.{true, false, true≢false}
 use mathlib.Core.List.{List, [], _∷_}
-use mathlib.Core.Logic.{⊎-elim}
+use mathlib.Core.Logic.{inl, inr, ⊎-elim}
 use native.Mathlib.Omega.{arith}
 use Rattle.plain.specs.Numbers.{lt-or-le}
 use Rattle.plain.specs.Tests.{decide}
@@ -13,6 +13,9 @@ use Rattle.run.specs.Laws.{one-yes, one-no, one-le, times-append}
 use Rattle.manual.specs.Sets.{Set, _∈_, _∉_, _∩_, _∖_, _⊆_, _≈_, Lists}
 use Rattle.manual.specs.Given.{Constants}
 use Rattle.manual.specs.Frames.{StartKey, EndKey, KeySet}
+use Rattle.manual.specs.State.{SS, φBasicParams, owned}
+use Rattle.manual.specs.Reports.{Success}
+use Rattle.manual.specs.Client.{GetIds}
 use Rattle.manual.specs.Walk.{Call, Walk, last, more, named, passes, total, calls, All, Throughout, Truthful, Complete}
 use Rattle.manual.proofs.Keys.{Between, between-in, between-out, larger-key}
 
@@ -113,3 +116,11 @@ module _ {k : Constants} {S : Type 0} {listed : S → Set} where
             (λ (e : x ∈ xs). named-once w x (i x e) (omega arith) (follows (λ s c. c x ∙ e) w t) ∙ sym (one-yes xs x e))
             (λ (e : x ∉ xs). never w x (follows (λ s c. c x ∙ e) w t) ∙ sym (one-no xs x e)) (decide (xs x));
       }
+
+-- a GetIds that reports success is such a call, over the ids that the client owns
+pub getIds-call : (k : Constants) {p : φBasicParams} {s s′ : SS} {key? count? key! : ℕ} {idset! : List ℕ}
+    → GetIds k p s s′ key? count? key! idset! → Success p → Call k (owned (p .clientnum) (s .blocks)) key? key! (key! - key?) idset!
+getIds-call k (inl h) ok = let z : _≡_ {A = ℕ} 0 1 = cc (h .1 .report!) in absurd (omega arith)
+getIds-call k {key? = key?} {key! = key! } (inr h) ok =
+    let l = larger-key k key? key! (h .1 .0 .keys .grows) in
+    record { subxs = h .1 .0 .subxs; keys = h .1 .0 .keys; names = h .1 .0 .idset; distance = omega arith }

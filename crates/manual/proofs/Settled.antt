@@ -12,7 +12,8 @@ use Rattle.manual.specs.Given.{Constants, Report, SuccessReport, NoSuchB
 use Rattle.manual.specs.State.{BlockInfo, Block, Blocks, SS, φBasicParams, put, _⩤_, later, ΞSS}
 use Rattle.manual.specs.Reports.{Failed}
 use Rattle.manual.specs.Client.{Create-success, Replace-success, SetExpiry-success}
-use Rattle.manual.specs.Settled.{Same, by, Settled}
+use Rattle.manual.specs.Tariff.{Costs}
+use Rattle.manual.specs.Settled.{Same, by, Settled, Charged}
 use Rattle.manual.proofs.Sizes.{one-naming, one-size}
 
 same-block : (a b : Block) → a .owner ≡ b .owner → a .created ≡ b .created → a .expires ≡ b .expires → a .bytes ≡ b .bytes → a ≡ b
@@ -126,3 +127,20 @@ settled k =
           or-else (λ e. apart (cc)) (or-else (λ e. apart (cc))
           (λ a b. succeeded (a .1) (b .1) (unchanged (a .0 .same) (b .0 .same)) (same-infos l m (a .0 .infoseq ∙ sym (b .0 .infoseq)))));
     }
+
+-- ---- the charge
+
+successful : (r : Report) → Dec (r ≡ SuccessReport)
+successful SuccessReport = yes refl
+successful NoSuchBlockReport = no (λ e. apart (cc))
+successful NoSpaceReport = no (λ e. apart (cc))
+successful NotOwnerReport = no (λ e. apart (cc))
+successful BadKeyReport = no (λ e. apart (cc))
+successful NotManagerReport = no (λ e. apart (cc))
+
+pub charged : (t : Costs) → Charged t
+charged t basic op block block′ c c′ a b = go (successful (basic .report!))
+  where
+    go : Dec (basic .report! ≡ SuccessReport) → c ≡ c′
+    go (yes e) = a .success e ∙ sym (b .success e)
+    go (no e) = a .error e ∙ sym (b .error e)

@@ -4,11 +4,13 @@
 use Prim.Native.Nat.{ℕ}
 use mathlib.Core.Path.{_≡_}
 use mathlib.Core.List.{List}
+use lib.IntN.{ℤ}
 use Rattle.run.specs.Run.{times}
-use Rattle.manual.specs.Given.{Constants, Report, SuccessReport}
+use Rattle.manual.specs.Given.{Constants, Report, SuccessReport, Op}
 use Rattle.manual.specs.State.{BlockInfo, SS, φBasicParams, ΞSS}
 use Rattle.manual.specs.Client.{Create, Read, Status, Destroy, Replace, SetExpiry, GetIds, GetCount}
 use Rattle.manual.specs.Manager.{Scavenge, Profile}
+use Rattle.manual.specs.Tariff.{Costs, φSSTariff}
 
 -- two outcomes are one: the reports, the states and, on success, the outputs
 pub record Same (r r′ : Report) (s′ s″ : SS) (outputs : Type 0) : Type 0 where
@@ -41,3 +43,10 @@ pub record Settled (k : Constants) : Type 0 where
   pub scavenge : (key? key! : ℕ) → Settles {A = ℕ} (λ p s s′ count!. Scavenge k p s s′ key? key! count!) _≡_
   pub profile : (key? key! : ℕ) (order : List ℕ)
       → Settles {A = List BlockInfo} (λ p s s′ infoseq!. Profile k p s s′ key? key! order infoseq!) _≡_
+
+-- and the charge is settled by the operation, its basic parameters and the blocks concerned
+abbrev pub Charged : Costs → Type 0
+Charged t =
+    (basic : φBasicParams) (op : Op) (block block′ : BlockInfo) (c c′ : ℤ)
+    → φSSTariff t (record { basic = basic; op? = op; cost! = c }) block block′
+    → φSSTariff t (record { basic = basic; op? = op; cost! = c′ }) block block′ → c ≡ c′

@@ -32,23 +32,25 @@ module _ (t : Costs) where
   abbrev pub BlockTariff : (created expires : ℕ) → ℤ
   BlockTariff created expires = t .BlockCost *ℤ (pos expires -ℤ pos created)
 
-  -- SSTariff: block is the stored block that the operation is given, block′ the one that it stores
-  pub record SSTariff (p : φParams) (block block′ : BlockInfo) : Type 0 where
-    pub create : p .op? ≡ CreateOp → p .cost! ≡ t .CreateCost +ℤ BlockTariff (block′ .created) (block′ .expires)
-    pub read : p .op? ≡ ReadOp → p .cost! ≡ t .ReadCost
-    pub status : p .op? ≡ StatusOp → p .cost! ≡ t .StatusCost
-    pub destroy : p .op? ≡ DestroyOp
-        → p .cost! ≡ t .DestroyCost -ℤ BlockTariff (block .created) (block .expires) +ℤ BlockTariff (block .created) (p .basic .now)
-    pub replace : p .op? ≡ ReplaceOp
-        → p .cost!
-        ≡ t .ReplaceCost -ℤ BlockTariff (block .created) (block .expires) +ℤ BlockTariff (block .created) (p .basic .now)
-        +ℤ BlockTariff (block′ .created) (block′ .expires)
-    pub setExpiry : p .op? ≡ SetExpiryOp
-        → p .cost! ≡ t .SetExpiryCost -ℤ BlockTariff (block .created) (block .expires) +ℤ BlockTariff (block′ .created) (block′ .expires)
-    pub getIds : p .op? ≡ GetIdsOp → p .cost! ≡ t .GetIdsCost
-    pub getCount : p .op? ≡ GetCountOp → p .cost! ≡ t .GetCountCost
-    pub scavenge : p .op? ≡ ScavengeOp → p .cost! ≡ t .ScavengeCost
-    pub profile : p .op? ≡ ProfileOp → p .cost! ≡ t .ProfileCost
+  -- SSTariff's lines, one for each operation: block is the stored block that the operation is given, block′ the one that it stores
+  abbrev pub costOf : Op → (now : ℕ) → (block block′ : BlockInfo) → ℤ
+  costOf CreateOp now block block′ = t .CreateCost +ℤ BlockTariff (block′ .created) (block′ .expires)
+  costOf ReadOp now block block′ = t .ReadCost
+  costOf StatusOp now block block′ = t .StatusCost
+  costOf DestroyOp now block block′ = t .DestroyCost -ℤ BlockTariff (block .created) (block .expires) +ℤ BlockTariff (block .created) now
+  costOf ReplaceOp now block block′ =
+      t .ReplaceCost -ℤ BlockTariff (block .created) (block .expires) +ℤ BlockTariff (block .created) now
+      +ℤ BlockTariff (block′ .created) (block′ .expires)
+  costOf SetExpiryOp now block block′ =
+      t .SetExpiryCost -ℤ BlockTariff (block .created) (block .expires) +ℤ BlockTariff (block′ .created) (block′ .expires)
+  costOf GetIdsOp now block block′ = t .GetIdsCost
+  costOf GetCountOp now block block′ = t .GetCountCost
+  costOf ScavengeOp now block block′ = t .ScavengeCost
+  costOf ProfileOp now block block′ = t .ProfileCost
+
+  -- SSTariff: op? = CreateOp ⇒ cost! = CreateCost + BlockTariff(created′, expires′), and so on
+  abbrev pub SSTariff : φParams → (block block′ : BlockInfo) → Type 0
+  SSTariff p block block′ = p .cost! ≡ costOf (p .op?) (p .basic .now) block block′
 
   -- ErrorTariff: cost! = ErrorCost
   abbrev pub ErrorTariff : φParams → Type 0
