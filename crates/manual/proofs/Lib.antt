@@ -5,3 +5,4 @@ pub mod Kept
 pub mod Settled
 pub mod Complete
 pub mod Scan
+pub mod Example

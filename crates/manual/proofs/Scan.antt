@@ -39,7 +39,7 @@ module _ (k : Constants) {xs : Set} {test : ℕ → Bool} {idAt : ℕ → ℕ} (
     unfolding picked times
     twin b zero l = refl
     twin b (suc v) l =
-        rw (map-append, times-append, times-append, twin-one b (omega arith), twin (b + 1) v (omega arith))
+        rw (map-append, times-append x (map idAt (just test b)), times-append y (just test b), twin-one b (omega arith), twin (b + 1) v (omega arith))
 
   module _ (key? visited : ℕ) (fits : key? + visited ≤ EndKey k) where
     abbrev key! : ℕ
