@@ -16,7 +16,7 @@ use Rattle.run.specs.Run.{one, just, picked, visits, times}
 use Rattle.run.specs.Laws.{one-no}
 use Rattle.manual.specs.Sets.{Set, _∈_, _∉_, only, _∩_, _∖_, _∪_, _≈_, HasSize}
 use Rattle.manual.specs.Given.{Constants, SuccessReport}
-use Rattle.manual.specs.State.{Block, Blocks, SS, φBasicParams, meets, such, dom, owned, expired, put, _⩤_, Invariant, later, NewIds}
+use Rattle.manual.specs.State.{Block, Blocks, SS, by, meets, such, dom, owned, expired, put, _⩤_, Invariant, later, NewIds}
 use Rattle.manual.specs.Frames.{KeySet}
 use Rattle.manual.specs.Client.{Create, Destroy, GetIds}
 use Rattle.manual.specs.Manager.{Scavenge}
@@ -44,13 +44,10 @@ k =
 abbrev pub block : (owner created expires : ℕ) → Block
 block owner created expires = record { owner = owner; created = created; expires = expires; bytes = [] }
 
-abbrev pub by : (clientnum now : ℕ) → φBasicParams
-by clientnum now = record { clientnum = clientnum; now = now; report! = SuccessReport }
-
--- ---- the stores: client 3 has blocks 0, 2 and 3, client 5 has block 1, which expires at 5
+-- ---- the stores: client 3 has blocks 0, 2 and 3, client 5 has block 1, which expires at 5; block 3 expires at 7
 
 abbrev pub first : SS
-first = record { blocks = put (put (put (put (λ x. none) 19 (block 3 4 90)) 14 (block 3 3 90)) 9 (block 5 2 5)) 4 (block 3 1 90); newids = NewIds k 4 }
+first = record { blocks = put (put (put (put (λ x. none) 19 (block 3 4 7)) 14 (block 3 3 90)) 9 (block 5 2 5)) 4 (block 3 1 90); newids = NewIds k 4 }
 
 -- client 3 destroys block 0 at 5
 abbrev pub second : SS
@@ -60,7 +57,7 @@ second = record { blocks = only 4 ⩤ first .blocks; newids = later k 5 (first .
 abbrev pub third : SS
 third = record { blocks = put (second .blocks) 24 (block 3 6 90); newids = later k 6 (second .newids) }
 
--- the manager scavenges at 7: block 1 goes
+-- the manager scavenges at 7: block 1 goes, and block 3 stays
 abbrev pub fourth : SS
 fourth = record { blocks = (KeySet k 4 ∖ KeySet k 0) ∩ expired 7 (third .blocks) ⩤ third .blocks; newids = later k 7 (third .newids) }
 
@@ -80,11 +77,11 @@ module _ (t : Block → Bool) (m : Blocks) (P : ℕ → Type 0) where
 -- of the ids of the first store, and of the third, each that passes a test
 module _ (t : Block → Bool) where
   each-first : (P : ℕ → Type 0) → (t (block 3 1 90) ≡ true → P 4) → (t (block 5 2 5) ≡ true → P 9) → (t (block 3 3 90) ≡ true → P 14)
-      → (t (block 3 4 90) ≡ true → P 19) → (x : ℕ) → x ∈ such t (first .blocks) → P x
+      → (t (block 3 4 7) ≡ true → P 19) → (x : ℕ) → x ∈ such t (first .blocks) → P x
   each-first P a b c d = each-put t _ P 4 _ a (each-put t _ P 9 _ b (each-put t _ P 14 _ c (each-put t _ P 19 _ d (λ x h. absurd (true≢false (sym h))))))
 
   each-third : (P : ℕ → Type 0) → (t (block 3 6 90) ≡ true → P 24) → (t (block 5 2 5) ≡ true → P 9) → (t (block 3 3 90) ≡ true → P 14)
-      → (t (block 3 4 90) ≡ true → P 19) → (x : ℕ) → x ∈ such t (third .blocks) → P x
+      → (t (block 3 4 7) ≡ true → P 19) → (x : ℕ) → x ∈ such t (third .blocks) → P x
   each-third P a b c d =
       each-put t _ P 24 _ a
       (each-cut t (first .blocks) P (only 4)
@@ -187,7 +184,7 @@ sound =
 one-block : {a b : Block} → some a ≡ some b → a ≡ b
 one-block e = cc
 
-pub destroyed : Destroy k (by 3 5) first second 4
+pub destroyed : Destroy k (by 3 5 SuccessReport) first second 4
 unfolding k
 destroyed = inr (λ e. not-so (sym e), inr (λ n. n .2 (sym (ap (λ b. b .owner) (one-block (n .1)))), (record { block = block 3 1 90; old = refl; blocks = λ x. refl; newids = λ x. refl }, refl)))
 
@@ -197,7 +194,7 @@ not-full h =
     let e = one-size (such-cut (λ b. true) (only 4) (first .blocks)) h (t .1) in
     omega (arith, t .2)
 
-pub created : Create k (by 3 6) second third 90 [] 24
+pub created : Create k (by 3 6 SuccessReport) second third 90 [] 24
 unfolding k
 created = inr (
   not-full,
@@ -214,30 +211,30 @@ created = inr (
   ),
 )
 
-pub scavenged : Scavenge k (by 0 7) third fourth 0 4 1
+pub scavenged : Scavenge k (by 0 7 SuccessReport) third fourth 0 4 1
 unfolding k picked just
-scavenged = scans k .scavenge {p = by 0 7} {s = third} {s′ = fourth} shows-third 0 (omega arith) refl refl (λ x. refl) (λ x. refl)
+scavenged = scans k .scavenge {p = by 0 7 SuccessReport} {s = third} {s′ = fourth} shows-third 0 (omega arith) refl refl (λ x. refl) (λ x. refl)
 
 -- the first store satisfies the invariants, and so does the last
 pub still-sound : Invariant k fourth
 still-sound =
-    let a = kept k .destroy {p = by 3 5} {id? = 4} first second sound destroyed .invariant in
-    let b = kept k .create {p = by 3 6} {expiry? = 90} {data? = []} {id! = 24} second third a created .invariant in
-    kept k .scavenge {p = by 0 7} {key? = 0} {key! = 4} {count! = 1} third fourth b scavenged .invariant
+    let a = kept k .destroy {p = by 3 5 SuccessReport} {id? = 4} first second sound destroyed .invariant in
+    let b = kept k .create {p = by 3 6 SuccessReport} {expiry? = 90} {data? = []} {id! = 24} second third a created .invariant in
+    kept k .scavenge {p = by 0 7 SuccessReport} {key? = 0} {key! = 4} {count! = 1} third fourth b scavenged .invariant
 
 -- ---- the walk: client 3 asks for one id at a time, and the three operations come after the first call
 
-pub got-first : GetIds k (by 3 0) first first 0 1 1 (4 ∷ [])
+pub got-first : GetIds k (by 3 0 SuccessReport) first first 0 1 1 (4 ∷ [])
 unfolding k picked just visits one
-got-first = scans k .getIds {p = by 3 0} {s = first} {s′ = first} shows-first 0 1 (omega arith) (omega arith) refl (record { blocks = λ x. refl; newids = λ x. refl })
+got-first = scans k .getIds {p = by 3 0 SuccessReport} {s = first} {s′ = first} shows-first 0 1 (omega arith) (omega arith) refl (record { blocks = λ x. refl; newids = λ x. refl })
 
-pub got-second : GetIds k (by 3 0) fourth fourth 1 1 3 (14 ∷ [])
+pub got-second : GetIds k (by 3 0 SuccessReport) fourth fourth 1 1 3 (14 ∷ [])
 unfolding k picked just visits one
-got-second = scans k .getIds {p = by 3 0} {s = fourth} {s′ = fourth} shows-fourth 1 1 (omega arith) (omega arith) refl (record { blocks = λ x. refl; newids = λ x. refl })
+got-second = scans k .getIds {p = by 3 0 SuccessReport} {s = fourth} {s′ = fourth} shows-fourth 1 1 (omega arith) (omega arith) refl (record { blocks = λ x. refl; newids = λ x. refl })
 
-pub got-third : GetIds k (by 3 0) fourth fourth 3 1 4 (19 ∷ [])
+pub got-third : GetIds k (by 3 0 SuccessReport) fourth fourth 3 1 4 (19 ∷ [])
 unfolding k picked just visits one
-got-third = scans k .getIds {p = by 3 0} {s = fourth} {s′ = fourth} shows-fourth 3 1 (omega arith) (omega arith) refl (record { blocks = λ x. refl; newids = λ x. refl })
+got-third = scans k .getIds {p = by 3 0 SuccessReport} {s = fourth} {s′ = fourth} shows-fourth 3 1 (omega arith) (omega arith) refl (record { blocks = λ x. refl; newids = λ x. refl })
 
 abbrev pub listed : SS → Set
 listed s = owned 3 (s .blocks)

@@ -10,17 +10,18 @@ use lib.Dec.{ltb}
 use Rattle.plain.specs.Tests.{both, decide}
 use Rattle.manual.specs.Sets.{Set, _∈_, _∉_, ∅, _∩_, _∖_, _⊆_, _⊂_, _≈_}
 use Rattle.manual.specs.Given.{Constants}
-use Rattle.manual.specs.Frames.{StartKey, EndKey, KeySet, φKey}
+use Rattle.manual.specs.Frames.{StartKey, EndKey, KeySet, KeySets, φKey}
 use Rattle.manual.proofs.Maps.{out-of}
 
 module _ (k : Constants) where
-  -- KeySet(StartKey) = ∅
-  pub start-key : KeySet k (StartKey k) ≈ ∅
+  start-key : KeySet k (StartKey k) ≈ ∅
   start-key x = out-of _ (λ e. let l = ltb-true (k .num x) 0 (both (k .BlockId x) (ltb (k .num x) 0) e .1) in omega arith)
 
-  -- KeySet(EndKey) = BlockId
-  pub end-key : KeySet k (EndKey k) ≈ k .BlockId
+  end-key : KeySet k (EndKey k) ≈ k .BlockId
   end-key x = ⊎-elim (λ (e : k .BlockId x ≡ true). rw (e, lt-ltb _ _ (k .numbered x e))) (λ (e : k .BlockId x ≡ false). rw e) (decide (k .BlockId x))
+
+  pub key-sets : KeySets k
+  key-sets = record { start = start-key; end = end-key }
 
   -- the subset of xs between two keys, and in numbers: the ids of xs whose number is from one key on and below the other
   abbrev pub part : (key? key! : ℕ) → Set → Set

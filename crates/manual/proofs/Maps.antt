@@ -6,7 +6,7 @@ use mathlib.Core.Bool.{Bool, true, false, not, cond, _&&_, _||_}
 use mathlib.Core.Logic.{_⊎_, inl, inr}
 use mathlib.Core.Option.{Option, none, some}
 use lib.Dec.{eqb}
-use Rattle.manual.specs.Sets.{Set, _∈_, _∉_, only, _∪_, _∖_, _≈_}
+use Rattle.manual.specs.Sets.{Set, _∈_, _∉_, only, _∪_, _∖_, _⊆_, _≈_}
 use Rattle.manual.specs.State.{Block, Blocks, meets, such, dom, put, _⩤_}
 
 -- a test that does not pass fails
@@ -48,6 +48,14 @@ such-cut t X m x = go (X x)
     go : (q : Bool) → meets t (cond q none (m x)) ≡ such t m x && not q
     go true = sym (and-false (such t m x))
     go false = sym (and-true (such t m x))
+
+-- what passes a test is stored
+pub such-dom : (t : Block → Bool) (m : Blocks) → such t m ⊆ dom m
+such-dom t m x = go (m x)
+  where
+    go : (o : Option Block) → meets t o ≡ true → meets (λ b. true) o ≡ true
+    go none h = h
+    go (some b) h = refl
 
 -- equal maps have equal sets
 pub such-same : (t : Block → Bool) {m n : Blocks} → m ≈ n → such t m ≈ such t n

@@ -9,11 +9,11 @@ use mathlib.Core.Option.{Option, none, some}
 use native.Mathlib.Omega.{arith}
 use Rattle.manual.specs.Sets.{Set, only, _≈_}
 use Rattle.manual.specs.Given.{Constants, Report, SuccessReport, NoSuchBlockReport, NoSpaceReport, NotOwnerReport, BadKeyReport, NotManagerReport}
-use Rattle.manual.specs.State.{BlockInfo, Block, Blocks, SS, φBasicParams, put, _⩤_, later, ΞSS}
+use Rattle.manual.specs.State.{BlockInfo, Block, Blocks, SS, φBasicParams, by, put, _⩤_, later, ΞSS}
 use Rattle.manual.specs.Reports.{Failed}
 use Rattle.manual.specs.Client.{Create-success, Replace-success, SetExpiry-success}
 use Rattle.manual.specs.Tariff.{Costs}
-use Rattle.manual.specs.Settled.{Same, by, Settled, Charged}
+use Rattle.manual.specs.Settled.{Same, Settled, Charged}
 use Rattle.manual.proofs.Sizes.{one-naming, one-size}
 
 same-block : (a b : Block) → a .owner ≡ b .owner → a .created ≡ b .created → a .expires ≡ b .expires → a .bytes ≡ b .bytes → a ≡ b

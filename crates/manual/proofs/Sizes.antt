@@ -12,7 +12,7 @@ use lib.ListN.{length, length-append}
 use Rattle.plain.specs.Tests.{decide, both}
 use Rattle.run.specs.Run.{one, just, times}
 use Rattle.run.specs.Laws.{one-yes, one-no, one-le, just-yes, just-no, length-just, times-append}
-use Rattle.manual.specs.Sets.{Set, _∈_, _∉_, only, _∪_, _∖_, _⊆_, _≈_, Lists, HasSize}
+use Rattle.manual.specs.Sets.{Set, _∈_, _∉_, only, _∪_, _∖_, _⊆_, _≈_, Lists, HasSize, OneSize}
 use Rattle.manual.proofs.Maps.{and-true}
 
 -- ---- one size
@@ -50,7 +50,7 @@ one-same : {X Y : Set} → X ≈ Y → (x : ℕ) → one X x ≡ one Y x
 unfolding one
 one-same e x = ap (λ (t : Bool). cond t 1 0) (e x)
 
--- two lists of one set name alike, and are as long as each other; so a set has one size
+-- two lists of one set name alike, and are as long as each other
 pub one-naming : {X Y : Set} (l m : List ℕ) → X ≈ Y → Lists l X → Lists m Y → (x : ℕ) → times x l ≡ times x m
 one-naming l m e a b x = a x ∙ one-same e x ∙ sym (b x)
 
@@ -59,6 +59,9 @@ one-length l m e a b = same-length l m (one-naming l m e a b)
 
 pub one-size : {X Y : Set} {n m : ℕ} → X ≈ Y → HasSize X n → HasSize Y m → n ≡ m
 one-size e a b = sym (a .2) ∙ one-length (a .0) (b .0) e (a .1) (b .1) ∙ b .2
+
+pub a-set-has-one-size : OneSize
+a-set-has-one-size X n m a b = one-size (λ x. refl) a b
 
 pub resized : {X Y : Set} {n : ℕ} → X ≈ Y → HasSize X n → HasSize Y n
 resized e a = (a .0, λ x. a .1 x ∙ one-same e x, a .2)

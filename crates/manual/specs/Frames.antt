@@ -4,7 +4,7 @@ use mathlib.Core.Path.{_≡_}
 use mathlib.Core.Bool.{_&&_}
 use mathlib.Core.Option.{some}
 use lib.Dec.{ltb}
-use Rattle.manual.specs.Sets.{Set, _∈_, _∩_, _∖_, _⊂_, _≈_}
+use Rattle.manual.specs.Sets.{Set, _∈_, ∅, _∩_, _∖_, _⊂_, _≈_}
 use Rattle.manual.specs.Given.{Constants}
 use Rattle.manual.specs.State.{Block, SS, φBasicParams}
 
@@ -24,7 +24,7 @@ module _ (k : Constants) where
 
   -- ---- 3.2 Key-linked operations
 
-  -- the set of no block ids, and of all block ids: a key is a block number, and one more stands for the end key
+  -- a key is a block number, and the number after the last one stands for the end key
   abbrev pub StartKey : ℕ
   StartKey = 0
 
@@ -34,6 +34,11 @@ module _ (k : Constants) where
   -- KeySet, from dom KeySet = 0 .. EndKey: the ids whose block number is below the key
   abbrev pub KeySet : ℕ → Set
   KeySet key x = k .BlockId x && ltb (k .num x) key
+
+  -- what PRG-62 asks of KeySet (proofs/Keys.antt)
+  pub record KeySets : Type 0 where
+    pub start : KeySet StartKey ≈ ∅
+    pub end : KeySet EndKey ≈ k .BlockId
 
   -- φKey: KeySet(key?) ⊂ KeySet(key!), subxs = (KeySet(key!) \ KeySet(key?)) ∩ xs
   pub record φKey (key? key! : ℕ) (xs subxs : Set) : Type 0 where

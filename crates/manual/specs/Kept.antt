@@ -11,7 +11,8 @@ use Rattle.manual.specs.Client.{Create-success, Create, Read, Status, De
 use Rattle.manual.specs.Manager.{Scavenge, Profile}
 
 module _ (k : Constants) where
-  -- the invariants hold afterwards, and any id issued is removed from the set of new ids, and so can never be issued again
+  -- the invariants hold afterwards; and as PRG-62's own rule has it, newids′ = newids \ dom blocks′, any id issued is removed from the set
+  -- of new ids and so can never be issued again. (Document 01's rule also removes ids that were never issued, so that one set is part of the other.)
   pub record Keeps (s s′ : SS) : Type 0 where
     pub invariant : Invariant k s′
     pub issued : s′ .newids ⊆ s .newids ∖ dom (s′ .blocks)

@@ -58,3 +58,7 @@ Lists l X = (x : ℕ) → times x l ≡ one X x
 -- #X = n
 abbrev pub HasSize : Set → ℕ → Type 0
 HasSize X n = (l : List ℕ) × Lists l X × (length l ≡ n)
+
+-- a set has one size (proofs/Sizes.antt)
+abbrev pub OneSize : Type 0
+OneSize = (X : Set) (n m : ℕ) → HasSize X n → HasSize X m → n ≡ m

@@ -7,7 +7,7 @@ use mathlib.Core.List.{List}
 use lib.IntN.{ℤ}
 use Rattle.run.specs.Run.{times}
 use Rattle.manual.specs.Given.{Constants, Report, SuccessReport, Op}
-use Rattle.manual.specs.State.{BlockInfo, SS, φBasicParams, ΞSS}
+use Rattle.manual.specs.State.{BlockInfo, SS, φBasicParams, by, ΞSS}
 use Rattle.manual.specs.Client.{Create, Read, Status, Destroy, Replace, SetExpiry, GetIds, GetCount}
 use Rattle.manual.specs.Manager.{Scavenge, Profile}
 use Rattle.manual.specs.Tariff.{Costs, φSSTariff}
@@ -17,10 +17,6 @@ pub record Same (r r′ : Report) (s′ s″ : SS) (outputs : Type 0) : Type 0 w
   pub report : r ≡ r′
   pub state : ΞSS s′ s″
   pub results : r ≡ SuccessReport → outputs
-
--- a call by clientnum at now, and its report
-abbrev pub by : (clientnum now : ℕ) → Report → φBasicParams
-by clientnum now report = record { clientnum = clientnum; now = now; report! = report }
 
 -- an operation, as a relation of the basic parameters, the states before and after, and the outputs, has one outcome for one call
 abbrev pub Settles : {A : Type 0} → (φBasicParams → SS → SS → A → Type 0) → (A → A → Type 0) → Type 0

@@ -77,6 +77,10 @@ pub record φBasicParams : Type 0 where
   pub now : ℕ
   pub report! : Report
 
+-- a call by clientnum at now, and its report
+abbrev pub by : (clientnum now : ℕ) → Report → φBasicParams
+by clientnum now report = record { clientnum = clientnum; now = now; report! = report }
+
 module _ (k : Constants) where
   -- SS's invariants: blocks : BlockId ⇸ Block and newids : 𝔽 BlockId; #blocks ≤ MaxBlocks; newids ∩ dom blocks = ∅;
   -- NullId ∉ dom blocks ∪ newids
@@ -101,11 +105,8 @@ module _ (k : Constants) where
   abbrev pub NewIds : (clock : ℕ) → Set
   NewIds clock = later clock (k .BlockId)
 
-  -- ΔSS's line, as PRG-62 has it: newids′ = newids \ dom blocks′
-  abbrev pub OwnRule : SS → SS → Type 0
-  OwnRule s s′ = s′ .newids ≈ s .newids ∖ dom (s′ .blocks)
-
-  -- ΔSS, with document 01's rule in place of that line: those above the clock, which becomes now
+  -- ΔSS. PRG-62's line is newids′ = newids \ dom blocks′; document 01 puts its own in the place of it: those whose time is above the clock,
+  -- which becomes now. What it keeps of PRG-62's is in Kept.antt.
   abbrev pub ΔSS : φBasicParams → SS → SS → Type 0
   ΔSS p s s′ = s′ .newids ≈ later (p .now) (s .newids)
 
