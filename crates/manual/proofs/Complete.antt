@@ -1,18 +1,18 @@
 -- Every walk from the start key is complete.
 -- Assumes nothing.
-use Prim.Native.Nat.{ℕ, suc, _+_, _-_, _≤_, _<_}
-use mathlib.Core.Path.{_≡_, refl, sym, _∙_, ap}
-use mathlib.Core.Bool.{true, false, true≢false}
+use Prim.Native.Nat.{ℕ, _+_, _-_, _≤_, _<_}
+use mathlib.Core.Path.{_≡_, sym, _∙_}
+use mathlib.Core.Bool.{true≢false}
 use mathlib.Core.List.{List, [], _∷_}
 use mathlib.Core.Logic.{inl, inr, ⊎-elim}
 use native.Mathlib.Omega.{arith}
 use Rattle.plain.specs.Numbers.{lt-or-le}
 use Rattle.plain.specs.Tests.{decide}
-use Rattle.run.specs.Run.{one, times}
+use Rattle.run.specs.Run.{times}
 use Rattle.run.specs.Laws.{one-yes, one-no, one-le, times-append}
-use Rattle.manual.specs.Sets.{Set, _∈_, _∉_, _∩_, _∖_, _⊆_, _≈_, Lists}
+use Rattle.manual.specs.Sets.{Set, _∈_, _∉_}
 use Rattle.manual.specs.Given.{Constants}
-use Rattle.manual.specs.Frames.{StartKey, EndKey, KeySet}
+use Rattle.manual.specs.Frames.{StartKey}
 use Rattle.manual.specs.State.{SS, φBasicParams, owned}
 use Rattle.manual.specs.Reports.{Success}
 use Rattle.manual.specs.Client.{GetIds}

@@ -1,26 +1,26 @@
 -- A walk of three calls over a store of four blocks, with a Destroy, a Create and a Scavenge after the first of them: what the theorem on
 -- walks speaks of exists. An id is time · 4 + block number.
 -- Assumes nothing.
-use Prim.Native.Nat.{ℕ, zero, suc, _+_, _-_, _/_, _%_, _≤_, _<_, min}
+use Prim.Native.Nat.{ℕ, zero, suc, _/_, _%_, _≤_, _<_}
 use mathlib.Core.Path.{_≡_, refl, sym, _∙_, ap}
-use mathlib.Core.Bool.{Bool, true, false, not, cond, _&&_, _||_, true≢false}
-use mathlib.Core.List.{List, [], _∷_, _++_, map}
-use mathlib.Core.Logic.{inl, inr, ⊎-elim}
+use mathlib.Core.Bool.{Bool, true, false, not, cond, true≢false}
+use mathlib.Core.List.{[], _∷_}
+use mathlib.Core.Logic.{inr, ⊎-elim}
 use mathlib.Core.Option.{none, some}
 use native.Mathlib.Omega.{arith}
 use borrow.Author.Tests.{eqb-true, lt-ltb, ltb-true, not-true}
 use lib.Dec.{eqb, ltb}
-use lib.ListN.{length, getD}
-use Rattle.plain.specs.Tests.{both, decide}
+use lib.ListN.{getD}
+use Rattle.plain.specs.Tests.{both}
 use Rattle.run.specs.Run.{one, just, picked, visits, times}
 use Rattle.run.specs.Laws.{one-no}
-use Rattle.manual.specs.Sets.{Set, _∈_, _∉_, only, _∩_, _∖_, _∪_, _≈_, HasSize}
+use Rattle.manual.specs.Sets.{Set, _∈_, _∉_, only, _∩_, _∖_, HasSize}
 use Rattle.manual.specs.Given.{Constants, SuccessReport}
 use Rattle.manual.specs.State.{Block, Blocks, SS, by, meets, such, dom, owned, expired, put, _⩤_, Invariant, later, NewIds}
 use Rattle.manual.specs.Frames.{KeySet}
 use Rattle.manual.specs.Client.{Create, Destroy, GetIds}
 use Rattle.manual.specs.Manager.{Scavenge}
-use Rattle.manual.specs.Walk.{Call, Walk, last, more, named, passes, Complete}
+use Rattle.manual.specs.Walk.{Walk, last, more, named}
 use Rattle.manual.specs.Scan.{Shows}
 use Rattle.manual.proofs.Maps.{out-of, either, dom-put, such-cut}
 use Rattle.manual.proofs.Sizes.{one-size, resized, added, taken}

@@ -1,21 +1,20 @@
 -- Each operation keeps SS's invariants.
 -- Assumes nothing.
-use Prim.Native.Nat.{ℕ, suc, _≤_, _<_, max}
+use Prim.Native.Nat.{ℕ, suc, _≤_, _<_}
 use mathlib.Core.Path.{_≡_, refl, sym, _∙_, ap}
-use mathlib.Core.Bool.{Bool, true, false, not, _&&_, _||_, true≢false}
-use mathlib.Core.List.{List, [], _∷_}
+use mathlib.Core.Bool.{Bool, true, false, not, _&&_, true≢false}
+use mathlib.Core.List.{List, []}
 use mathlib.Core.Logic.{_⊎_, _≢_, inl, inr, ⊎-elim}
-use mathlib.Core.Option.{none, some}
 use native.Mathlib.Omega.{arith}
-use borrow.Author.Tests.{eqb-true, eqb-false, eq-eqb, ne-eqb, ltb-true, lt-ltb, le-ltb}
+use borrow.Author.Tests.{eqb-true, eqb-false, eq-eqb, ltb-true, lt-ltb, le-ltb}
 use lib.Dec.{eqb, ltb}
-use Rattle.plain.specs.Tests.{decide, both}
+use Rattle.plain.specs.Tests.{both}
 use Rattle.plain.specs.Numbers.{lt-or-le}
-use Rattle.run.specs.Run.{one, times}
+use Rattle.run.specs.Run.{times}
 use Rattle.run.specs.Laws.{one-no}
-use Rattle.manual.specs.Sets.{Set, _∈_, _∉_, only, _∪_, _∖_, _⊆_, _≈_, HasSize}
+use Rattle.manual.specs.Sets.{_∈_, _∉_, only, _∪_, _⊆_, _≈_, HasSize}
 use Rattle.manual.specs.Given.{Constants, Report}
-use Rattle.manual.specs.State.{Block, Blocks, SS, φBasicParams, dom, meets, such, put, _⩤_, Ordered, Invariant, InitSS, later, NewIds, ΔSS, ΞSS}
+use Rattle.manual.specs.State.{Block, Blocks, SS, φBasicParams, dom, meets, put, _⩤_, Invariant, InitSS, ΔSS, ΞSS}
 use Rattle.manual.specs.Reports.{Failed}
 use Rattle.manual.specs.Client.{Create-success, Destroy-success, Replace-success, SetExpiry-success}
 use Rattle.manual.specs.Manager.{Scavenge-success}

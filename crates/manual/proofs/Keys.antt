@@ -1,8 +1,8 @@
 -- Keys and key sets, in numbers: what lies between two keys.
 -- Assumes nothing.
 use Prim.Native.Nat.{ℕ, _≤_, _<_}
-use mathlib.Core.Path.{_≡_, refl, sym, _∙_, ap}
-use mathlib.Core.Bool.{Bool, true, false, not, _&&_}
+use mathlib.Core.Path.{_≡_}
+use mathlib.Core.Bool.{true, false, not}
 use mathlib.Core.Logic.{⊎-elim}
 use native.Mathlib.Omega.{arith}
 use borrow.Author.Tests.{ltb-true, ltb-false, lt-ltb, le-ltb, not-true}
@@ -10,7 +10,7 @@ use lib.Dec.{ltb}
 use Rattle.plain.specs.Tests.{both, decide}
 use Rattle.manual.specs.Sets.{Set, _∈_, _∉_, ∅, _∩_, _∖_, _⊆_, _⊂_, _≈_}
 use Rattle.manual.specs.Given.{Constants}
-use Rattle.manual.specs.Frames.{StartKey, EndKey, KeySet, KeySets, φKey}
+use Rattle.manual.specs.Frames.{StartKey, EndKey, KeySet, KeySets}
 use Rattle.manual.proofs.Maps.{out-of}
 
 module _ (k : Constants) where

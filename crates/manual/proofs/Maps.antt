@@ -1,12 +1,12 @@
 -- Members of the sets that the operations make: of unions and differences, and of the domain of a map that is changed.
 -- Assumes nothing.
 use Prim.Native.Nat.{ℕ}
-use mathlib.Core.Path.{_≡_, refl, sym, _∙_, ap}
+use mathlib.Core.Path.{_≡_, refl, sym, ap}
 use mathlib.Core.Bool.{Bool, true, false, not, cond, _&&_, _||_}
 use mathlib.Core.Logic.{_⊎_, inl, inr}
 use mathlib.Core.Option.{Option, none, some}
 use lib.Dec.{eqb}
-use Rattle.manual.specs.Sets.{Set, _∈_, _∉_, only, _∪_, _∖_, _⊆_, _≈_}
+use Rattle.manual.specs.Sets.{Set, only, _∪_, _∖_, _⊆_, _≈_}
 use Rattle.manual.specs.State.{Block, Blocks, meets, such, dom, put, _⩤_}
 
 -- a test that does not pass fails

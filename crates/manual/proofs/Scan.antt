@@ -1,22 +1,21 @@
 -- A scan of block numbers is a key-linked call, as the manual has it.
 -- Assumes nothing.
-use Prim.Native.Nat.{ℕ, zero, suc, _+_, _-_, _≤_, _<_, min}
+use Prim.Native.Nat.{ℕ, zero, suc, _+_, _≤_, _<_}
 use mathlib.Core.Path.{_≡_, refl, sym, _∙_, ap}
 use mathlib.Core.Bool.{Bool, true, false, true≢false}
-use mathlib.Core.List.{List, [], _∷_, _++_, map, map-append}
-use mathlib.Core.Logic.{inl, inr, ⊎-elim}
+use mathlib.Core.List.{map, map-append}
+use mathlib.Core.Logic.{inr, ⊎-elim}
 use native.Mathlib.Omega.{arith}
 use borrow.Author.Tests.{eqb-true, eqb-false, eq-eqb, ne-eqb}
 use lib.Dec.{eqb}
-use lib.ListN.{length, length-map}
+use lib.ListN.{length-map}
 use Rattle.plain.specs.Numbers.{lt-or-le}
 use Rattle.plain.specs.Tests.{decide}
-use Rattle.run.specs.Run.{one, just, picked, visits, times}
+use Rattle.run.specs.Run.{one, just, picked, times}
 use Rattle.run.specs.Laws.{one-yes, one-no, just-yes, just-no, times-append, visits-le, visits-pos, picked-le, picked-none-below, picked-none-above, picked-once}
 use Rattle.manual.specs.Sets.{Set, _∈_, _∉_, Lists}
 use Rattle.manual.specs.Given.{Constants}
 use Rattle.manual.specs.Frames.{EndKey, φKey}
-use Rattle.manual.specs.Walk.{Call}
 use Rattle.manual.specs.Scan.{Shows, reach, reachFor, keyAfter, idsOf, Scans}
 use Rattle.manual.proofs.Maps.{out-of}
 use Rattle.manual.proofs.Keys.{part, Between, between-in, between-out, larger-set}
@@ -35,11 +34,12 @@ module _ (k : Constants) {xs : Set} {test : ℕ → Bool} {idAt : ℕ → ℕ} (
         ⊎-elim (λ (e : test b ≡ true). rw (just-yes test b e, agree x (idAt b) y b (at b l e .0) (at b l e .1)))
         (λ (e : test b ≡ false). rw (just-no test b e)) (decide (test b))
 
-    twin : (b v : ℕ) → b + v ≤ k .MaxBlocks → times x (idsOf k test idAt b v) ≡ times y (picked test b v)
+    twin : (b v : ℕ) → b + v ≤ k .MaxBlocks → times x (map idAt (picked test b v)) ≡ times y (picked test b v)
     unfolding picked times
     twin b zero l = refl
     twin b (suc v) l =
-        rw (map-append, times-append x (map idAt (just test b)), times-append y (just test b), twin-one b (omega arith), twin (b + 1) v (omega arith))
+        rw (map-append, times-append x (map idAt (just test b)), times-append y (just test b))
+        (rw (twin-one b (omega arith), twin (b + 1) v (omega arith)))
 
   module _ (key? visited : ℕ) (fits : key? + visited ≤ EndKey k) where
     abbrev key! : ℕ
@@ -57,7 +57,7 @@ module _ (k : Constants) {xs : Set} {test : ℕ → Bool} {idAt : ℕ → ℕ} (
         (λ (l : key? ≤ k .num x). ⊎-elim
         (λ (u : k .num x < key? + visited).
         picked-once test key? visited (k .num x) l u ∙ one-yes test (k .num x) (t .1)
-        ∙ sym (one-yes (part k key? key! xs) x (between-in k key? key! xs x (record { id = t .0; from = l; below = u; listed = e }))))
+        ∙ sym (one-yes (part k key? key! xs) x (between-in k key? key! xs x (record { id = t .0; from = l; below = omega arith; listed = e }))))
         (λ (u : key? + visited ≤ k .num x). picked-none-above test key? visited (k .num x) u ∙ sym (outside x (λ b. omega (arith, b .below))))
         (lt-or-le (k .num x) (key? + visited)))
         (lt-or-le (k .num x) key?)
@@ -69,13 +69,14 @@ module _ (k : Constants) {xs : Set} {test : ℕ → Bool} {idAt : ℕ → ℕ} (
         let t = h .stands x e in
         twin x (k .num x) (λ b l p. (λ q. ap (k .num) q ∙ h .holds b l p .1, λ q. sym (t .2) ∙ ap idAt q)) key? visited fits ∙ listed x e)
         (λ (e : x ∉ xs).
-        twin x (k .MaxBlocks) (λ b l p. (λ q. absurd (true≢false (sym (h .holds b l p .0) ∙ ap xs (sym q) ∙ e)), λ q. absurd (omega arith))) key? visited fits
+        let other : (b : ℕ) → b < k .MaxBlocks → test b ≡ true → x ≡ idAt b → ⊥ = λ b l p q. true≢false (sym (h .holds b l p .0) ∙ ap xs (sym q) ∙ e) in
+        twin x (k .MaxBlocks) (λ b l p. (λ q. absurd (other b l p q), λ q. absurd (omega arith))) key? visited fits
         ∙ picked-none-above test key? visited (k .MaxBlocks) fits
         ∙ sym (outside x (λ b. true≢false (sym (b .listed) ∙ e))))
         (decide (xs x))
 
     keys : 0 < visited → φKey k key? key! xs (part k key? key! xs)
-    keys pos = record { valid = fits; grows = larger-set k key? key! (omega arith) fits; part = λ x. refl }
+    keys pos = record { valid = omega arith; grows = larger-set k key? key! (omega arith) (omega arith); part = λ x. refl }
 
 -- what may be visited from a key below the end key: one number at least, and none past the last
 visit-fits : (k : Constants) (test : ℕ → Bool) (key? count? : ℕ) → key? < EndKey k → 0 < count?

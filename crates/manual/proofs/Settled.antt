@@ -1,6 +1,6 @@
 -- Each operation is settled by its inputs, with document 01's choices fixed.
 -- Assumes nothing.
-use Prim.Native.Nat.{ℕ, max}
+use Prim.Native.Nat.{ℕ}
 use mathlib.Core.Path.{_≡_, refl, sym, _∙_, ap}
 use mathlib.Core.Bool.{Bool, cond}
 use mathlib.Core.List.{List, [], _∷_, map}
@@ -9,7 +9,7 @@ use mathlib.Core.Option.{Option, none, some}
 use native.Mathlib.Omega.{arith}
 use Rattle.manual.specs.Sets.{Set, only, _≈_}
 use Rattle.manual.specs.Given.{Constants, Report, SuccessReport, NoSuchBlockReport, NoSpaceReport, NotOwnerReport, BadKeyReport, NotManagerReport}
-use Rattle.manual.specs.State.{BlockInfo, Block, Blocks, SS, φBasicParams, by, put, _⩤_, later, ΞSS}
+use Rattle.manual.specs.State.{BlockInfo, Block, Blocks, SS, φBasicParams, by, put, _⩤_, ΞSS}
 use Rattle.manual.specs.Reports.{Failed}
 use Rattle.manual.specs.Client.{Create-success, Replace-success, SetExpiry-success}
 use Rattle.manual.specs.Tariff.{Costs}

@@ -5,7 +5,7 @@ use mathlib.Core.List.{List, map}
 use mathlib.Core.Option.{Option, none, some}
 use Rattle.manual.specs.Sets.{Set, _≈_, Lists, HasSize}
 use Rattle.manual.specs.Given.{Constants}
-use Rattle.manual.specs.State.{BlockInfo, Block, Blocks, SS, φBasicParams, info, dom, expired, _⩤_, ΔSS, ΞSS}
+use Rattle.manual.specs.State.{BlockInfo, Block, SS, φBasicParams, info, dom, expired, _⩤_, ΔSS, ΞSS}
 use Rattle.manual.specs.Frames.{φKey}
 use Rattle.manual.specs.Reports.{_⊕_, Success, BadKey, NotManager}
 

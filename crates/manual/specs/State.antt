@@ -1,11 +1,10 @@
 -- PRG-62, User Manual, sections 2 and 3: blocks, the state SS with its invariants, its start, and the general schemas ΔSS and ΞSS.
 use Prim.Native.Nat.{ℕ, _≤_}
-use mathlib.Core.Path.{_≡_}
 use mathlib.Core.Bool.{Bool, true, false, cond, _&&_}
 use mathlib.Core.List.{List}
 use mathlib.Core.Option.{Option, none, some}
 use lib.Dec.{eqb, ltb}
-use Rattle.manual.specs.Sets.{Set, _∈_, _∉_, ∅, only, _∪_, _∖_, _⊆_, _≈_, HasSize}
+use Rattle.manual.specs.Sets.{Set, _∈_, _∉_, only, _∪_, _∖_, _⊆_, _≈_, HasSize}
 use Rattle.manual.specs.Given.{Constants, Report}
 
 -- ---- 2.1 Blocks
