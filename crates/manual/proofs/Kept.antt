@@ -12,14 +12,15 @@ use Rattle.plain.specs.Tests.{both}
 use Rattle.plain.specs.Numbers.{lt-or-le}
 use Rattle.run.specs.Run.{times}
 use Rattle.run.specs.Laws.{one-no}
-use Rattle.manual.specs.Sets.{_∈_, _∉_, only, _∪_, _⊆_, _≈_, HasSize}
+use Rattle.manual.specs.Sets.{Set, _∈_, _∉_, only, _∪_, _⊆_, _≈_, HasSize}
 use Rattle.manual.specs.Given.{Constants, Report}
 use Rattle.manual.specs.State.{Block, Blocks, SS, φBasicParams, dom, meets, put, _⩤_, Invariant, InitSS, ΔSS, ΞSS}
+use Rattle.manual.specs.Frames.{φNewBlock}
 use Rattle.manual.specs.Reports.{Failed}
 use Rattle.manual.specs.Client.{Create-success, Destroy-success, Replace-success, SetExpiry-success}
 use Rattle.manual.specs.Manager.{Scavenge-success}
 use Rattle.manual.specs.Kept.{Keeps, Kept, NewIdsRead, Dated}
-use Rattle.manual.proofs.Maps.{out-of, and-false, either, or-left, or-right, dom-put, such-cut, such-same}
+use Rattle.manual.proofs.Maps.{out-of, and-false, either, or-left, or-right, dom-put, dom-cut, such-cut, such-same}
 use Rattle.manual.proofs.Sizes.{resized, added, fewer, taken}
 
 abbrev stored : Block → Bool
@@ -78,56 +79,60 @@ module _ (k : Constants) (s s′ : SS) (i : Invariant k s) where
         }
 
   -- ---- each change
-  module _ (p : φBasicParams) where
-    -- a domain that is part of the one before
-    shrunk : ΔSS k p s s′ → dom (s′ .blocks) ⊆ dom (s .blocks) → Keeps k s s′
-    shrunk δ h =
+
+  module _ (p : φBasicParams) (δ : ΔSS k p s s′) where
+    -- what is stored is part of what was
+    shrunk : dom (s′ .blocks) ⊆ dom (s .blocks) → Keeps k s s′
+    shrunk h =
         let f = fewer h (i .few .1) in
         let few : f .0 ≤ k .MaxBlocks = omega (arith, f .2, i .few .2) in
         changed p δ (f .0, f .1, few) (λ x e. inl (h x e))
 
-    -- a new block, on what is left of the blocks before: still few enough, and of a known origin
-    grown : ΔSS k p s s′ → (m : Blocks) (n : ℕ) → dom m ⊆ dom (s .blocks) → HasSize (dom m) n → n < k .MaxBlocks
-        → (id! : ℕ) → id! ∈ s .newids → k .time id! ≡ p .now → (b : Block) → s′ .blocks ≈ put m id! b → Keeps k s s′
-    grown δ m n part size room id! new made b e = changed p δ (suc n, resized (λ x. sym (d x)) (added (dom m) id! out size), room) origin
+    cut : (X : Set) → s′ .blocks ≈ X ⩤ s .blocks → Keeps k s s′
+    cut X e = shrunk (λ x h. dom-cut X (s .blocks) x (sym (such-same stored e x) ∙ h))
+
+    -- a new block is stored beside a part of what was
+    grown : (m : Blocks) {n : ℕ} → dom m ⊆ dom (s .blocks) → HasSize (dom m) n → n < k .MaxBlocks
+        → {b : Block} {id! : ℕ} → φNewBlock k p s b id! → s′ .blocks ≈ put m id! b → Keeps k s s′
+    grown m {n} part size room {b} {id! } new e = changed p δ (suc n, resized (λ x. sym (d x)) (added (dom m) id! out size), room) origin
       where
         d : dom (s′ .blocks) ≈ only id! ∪ dom m
         d x = such-same stored e x ∙ dom-put m id! b x
 
         out : id! ∉ dom m
-        out = out-of (dom m id!) (λ h. true≢false (sym (part id! h) ∙ i .fresh id! new))
+        out = out-of (dom m id!) (λ h. true≢false (sym (part id! h) ∙ i .fresh id! (new .new)))
 
         origin : (x : ℕ) → x ∈ dom (s′ .blocks) → (x ∈ dom (s .blocks)) ⊎ ((x ∈ s .newids) × (k .time x ≡ p .now))
         origin x h =
-            ⊎-elim (λ q. let z = eqb-true x id! q in inr (ap (s .newids) z ∙ new, ap (k .time) z ∙ made)) (λ q. inl (part x q))
+            ⊎-elim (λ q. let z = eqb-true x id! q in inr (ap (s .newids) z ∙ new .new, ap (k .time) z ∙ new .made)) (λ q. inl (part x q))
             (either (eqb x id!) (dom m x) (sym (d x) ∙ h))
 
-    create : {expiry? : ℕ} {data? : List ℕ} {id! : ℕ} → (¬ HasSize (dom (s .blocks)) (k .MaxBlocks)) → Create-success k p s s′ expiry? data? id! → Keeps k s s′
-    create {expiry?} {data?} {id! } full c =
+  module _ {p : φBasicParams} where
+    create : {expiry? : ℕ} {data? : List ℕ} {id! : ℕ} → (¬ HasSize (dom (s .blocks)) (k .MaxBlocks))
+        → Create-success k p s s′ expiry? data? id! → Keeps k s s′
+    create full c =
         let d : i .few .0 ≡ k .MaxBlocks → ⊥ = λ e. full (rw e at (i .few .1)) in
         let room : i .few .0 < k .MaxBlocks = omega (arith, i .few .2) in
-        grown (c .newids) (s .blocks) (i .few .0) (λ x h. h) (i .few .1) room id! (c .new .new) (c .new .made) (c .newblock) (c .blocks)
+        grown p (c .newids) (s .blocks) (λ x h. h) (i .few .1) room (c .new) (c .blocks)
 
     destroy : {id? : ℕ} → Destroy-success k p s s′ id? → Keeps k s s′
-    destroy {id?} c = shrunk (c .newids) (λ x h. both (dom (s .blocks) x) (not (eqb x id?)) (sym (such-same stored (c .blocks) x ∙ such-cut stored (only id?) (s .blocks) x) ∙ h) .0)
+    destroy {id?} c = cut p (c .newids) (only id?) (c .blocks)
 
     replace : {id? : ℕ} {data? : List ℕ} {id! : ℕ} → Replace-success k p s s′ id? data? id! → Keeps k s s′
-    replace {id?} {data?} {id! } c =
-        let m : Blocks = only id? ⩤ s .blocks in
-        let cut = such-cut stored (only id?) (s .blocks) in
+    replace {id?} c =
         let t = taken (dom (s .blocks)) id? (ap (λ o. meets stored o) (c .old)) (i .few .1) in
+        let size = resized (λ x. sym (such-cut stored (only id?) (s .blocks) x)) (t .1) in
         let room : t .0 < k .MaxBlocks = omega (arith, t .2, i .few .2) in
-        grown (c .newids) m (t .0) (λ x h. both (dom (s .blocks) x) (not (eqb x id?)) (sym (cut x) ∙ h) .0) (resized (λ x. sym (cut x)) (t .1)) room id! (c .new .new) (c .new .made) (c .newblock) (c .blocks)
+        grown p (c .newids) (only id? ⩤ s .blocks) (dom-cut (only id?) (s .blocks)) size room (c .new) (c .blocks)
 
     setExpiry : {id? expiry? : ℕ} → SetExpiry-success k p s s′ id? expiry? → Keeps k s s′
     setExpiry {id?} c =
-        shrunk (c .newids)
+        shrunk p (c .newids)
         (λ x h. ⊎-elim (λ q. ap (dom (s .blocks)) (eqb-true x id? q) ∙ ap (λ o. meets stored o) (c .old)) (λ q. q)
         (either (eqb x id?) (dom (s .blocks) x) (sym (such-same stored (c .blocks) x ∙ dom-put (s .blocks) id? (c .newblock) x) ∙ h)))
 
     scavenge : {key? key! count! : ℕ} → Scavenge-success k p s s′ key? key! count! → Keeps k s s′
-    scavenge c =
-        shrunk (c .newids) (λ x h. both (dom (s .blocks) x) (not (c .subxs x)) (sym (such-same stored (c .blocks) x ∙ such-cut stored (c .subxs) (s .blocks) x) ∙ h) .0)
+    scavenge c = cut p (c .newids) (c .subxs) (c .blocks)
 
   -- an error keeps them; so it is enough that the success does
   or-else : {p : φBasicParams} {r : Report} {pre success : Type 0} → ((¬ pre) → success → Keeps k s s′)
@@ -141,7 +146,7 @@ initial k s′ e =
       ids = λ x h. both (k .BlockId x) (not (eqb x (k .NullId))) (sym (e .newids x) ∙ rw (none-stored x) at h) .0;
       few = (0, ([], λ x. sym (one-no (dom (s′ .blocks)) x (none-stored x)), refl), omega arith);
       fresh = λ x h. none-stored x;
-      null = rw (none-stored (k .NullId)) (e .newids (k .NullId) ∙ rw (eq-eqb (k .NullId) (k .NullId) refl) (and-false (k .BlockId (k .NullId))));
+      null = rw (none-stored (k .NullId), e .newids (k .NullId), eq-eqb (k .NullId) (k .NullId) refl) (and-false (k .BlockId (k .NullId)));
     }
   where
     none-stored : (x : ℕ) → x ∉ dom (s′ .blocks)
@@ -151,15 +156,15 @@ pub kept : (k : Constants) → Kept k
 kept k =
     record {
       init = λ {s′} e. initial k s′ e;
-      create = λ {p} s s′ i. or-else k s s′ i (λ full c. create k s s′ i p full (c .0));
+      create = λ s s′ i. or-else k s s′ i (λ full c. create k s s′ i full (c .0));
       read = λ s s′ i. or-else k s s′ i (λ n c. unchanged k s s′ i (c .0 .same));
       status = λ s s′ i. or-else k s s′ i (λ n c. unchanged k s s′ i (c .0 .same));
-      destroy = λ {p} s s′ i. or-else k s s′ i (λ n. or-else k s s′ i (λ o c. destroy k s s′ i p (c .0)));
-      replace = λ {p} s s′ i. or-else k s s′ i (λ n. or-else k s s′ i (λ o c. replace k s s′ i p (c .0)));
-      setExpiry = λ {p} s s′ i. or-else k s s′ i (λ n. or-else k s s′ i (λ o c. setExpiry k s s′ i p (c .0)));
+      destroy = λ s s′ i. or-else k s s′ i (λ n. or-else k s s′ i (λ o c. destroy k s s′ i (c .0)));
+      replace = λ s s′ i. or-else k s s′ i (λ n. or-else k s s′ i (λ o c. replace k s s′ i (c .0)));
+      setExpiry = λ s s′ i. or-else k s s′ i (λ n. or-else k s s′ i (λ o c. setExpiry k s s′ i (c .0)));
       getIds = λ s s′ i. or-else k s s′ i (λ n c. unchanged k s s′ i (c .0 .same));
       getCount = λ s s′ i c. unchanged k s s′ i (c .0 .same);
-      scavenge = λ {p} s s′ i. or-else k s s′ i (λ m. or-else k s s′ i (λ b c. scavenge k s s′ i p (c .0)));
+      scavenge = λ s s′ i. or-else k s s′ i (λ m. or-else k s s′ i (λ b c. scavenge k s s′ i (c .0)));
       profile = λ s s′ i. or-else k s s′ i (λ m. or-else k s s′ i (λ b c. unchanged k s s′ i (c .0 .same)));
     }
 
@@ -168,8 +173,8 @@ kept k =
 later-later : (n : Bool) (clock now time : ℕ) → clock ≤ now → n && ltb clock time && ltb now time ≡ n && ltb now time
 later-later false clock now time l = refl
 later-later true clock now time l =
-    ⊎-elim (λ (h : now < time). rw (lt-ltb now time h, lt-ltb clock time (omega arith))) (λ (h : time ≤ now). rw (le-ltb now time h) (and-false (ltb clock time)))
-    (lt-or-le now time)
+    ⊎-elim (λ (h : now < time). rw (lt-ltb now time h, lt-ltb clock time (omega arith)))
+    (λ (h : time ≤ now). rw (le-ltb now time h) (and-false (ltb clock time))) (lt-or-le now time)
 
 pub new-ids : (k : Constants) → NewIdsRead k
 new-ids k =

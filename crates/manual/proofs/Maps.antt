@@ -1,11 +1,12 @@
 -- Members of the sets that the operations make: of unions and differences, and of the domain of a map that is changed.
 -- Assumes nothing.
 use Prim.Native.Nat.{ℕ}
-use mathlib.Core.Path.{_≡_, refl, sym, ap}
+use mathlib.Core.Path.{_≡_, refl, sym, _∙_, ap}
 use mathlib.Core.Bool.{Bool, true, false, not, cond, _&&_, _||_}
 use mathlib.Core.Logic.{_⊎_, inl, inr}
 use mathlib.Core.Option.{Option, none, some}
 use lib.Dec.{eqb}
+use Rattle.plain.specs.Tests.{both}
 use Rattle.manual.specs.Sets.{Set, only, _∪_, _∖_, _⊆_, _≈_}
 use Rattle.manual.specs.State.{Block, Blocks, meets, such, dom, put, _⩤_}
 
@@ -48,6 +49,9 @@ such-cut t X m x = go (X x)
     go : (q : Bool) → meets t (cond q none (m x)) ≡ such t m x && not q
     go true = sym (and-false (such t m x))
     go false = sym (and-true (such t m x))
+
+pub dom-cut : (X : Set) (m : Blocks) → dom (X ⩤ m) ⊆ dom m
+dom-cut X m x h = both (dom m x) (not (X x)) (sym (such-cut (λ b. true) X m x) ∙ h) .0
 
 -- what passes a test is stored
 pub such-dom : (t : Block → Bool) (m : Blocks) → such t m ⊆ dom m
