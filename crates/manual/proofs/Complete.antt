@@ -15,8 +15,9 @@ use Rattle.manual.specs.Given.{Constants}
 use Rattle.manual.specs.Frames.{StartKey}
 use Rattle.manual.specs.State.{SS, φBasicParams, owned}
 use Rattle.manual.specs.Reports.{Success}
-use Rattle.manual.specs.Client.{GetIds}
+use Rattle.manual.specs.Client.{GetIds-success, GetIds}
 use Rattle.manual.specs.Walk.{Call, Walk, last, more, named, passes, total, calls, All, Throughout, Truthful, Complete}
+use Rattle.manual.specs.Scan.{NoZeroCount}
 use Rattle.manual.proofs.Keys.{Between, between-in, between-out, larger-key}
 
 -- ---- one call
@@ -117,10 +118,23 @@ module _ {k : Constants} {S : Type 0} {listed : S → Set} where
             (λ (e : x ∉ xs). never w x (follows (λ s c. c x ∙ e) w t) ∙ sym (one-no xs x e)) (decide (xs x));
       }
 
--- a GetIds that reports success is such a call, over the ids that the client owns
+-- ---- GetIds: one that reports success is such a call, over the ids that the client owns
+
+success-call : (k : Constants) {p : φBasicParams} {s s′ : SS} {key? count? key! : ℕ} {idset! : List ℕ}
+    → GetIds-success k p s s′ key? count? key! idset! → Call k (owned (p .clientnum) (s .blocks)) key? key! (key! - key?) idset!
+success-call k {key? = key?} {key! = key! } g =
+    let l = larger-key k key? key! (g .keys .grows) in
+    record { subxs = g .subxs; keys = g .keys; names = g .idset; distance = omega arith }
+
 pub getIds-call : (k : Constants) {p : φBasicParams} {s s′ : SS} {key? count? key! : ℕ} {idset! : List ℕ}
     → GetIds k p s s′ key? count? key! idset! → Success p → Call k (owned (p .clientnum) (s .blocks)) key? key! (key! - key?) idset!
 getIds-call k (inl h) ok = let z : _≡_ {A = ℕ} 0 1 = cc (h .1 .report!) in absurd (omega arith)
-getIds-call k {key? = key?} {key! = key! } (inr h) ok =
-    let l = larger-key k key? key! (h .1 .0 .keys .grows) in
-    record { subxs = h .1 .0 .subxs; keys = h .1 .0 .keys; names = h .1 .0 .idset; distance = omega arith }
+getIds-call k (inr h) ok = success-call k (h .1 .0)
+
+pub no-zero-count : (k : Constants) → NoZeroCount k
+unfolding times
+no-zero-count k p s s′ x key! [] i o g =
+    let c = success-call k g in
+    let one = here c x (record { id = i; from = omega arith; below = forward c; listed = o }) in
+    omega (arith, one)
+no-zero-count k p s s′ x key! (y ∷ l) i o g = omega (arith, g .few)

@@ -1,65 +1,36 @@
--- A walk of three calls over a store of four blocks, with a Destroy, a Create and a Scavenge after the first of them: what the theorem on
--- walks speaks of exists. An id is time · 4 + block number.
+-- A walk of three calls over the stores of specs/Example.antt, with a Destroy, a Create and a Scavenge after the first call: what the theorem
+-- on walks speaks of exists.
 -- Assumes nothing.
-use Prim.Native.Nat.{ℕ, zero, suc, _/_, _%_, _≤_, _<_}
+use Prim.Native.Nat.{ℕ, zero, suc, _/_, _≤_, _<_}
 use mathlib.Core.Path.{_≡_, refl, sym, _∙_, ap}
 use mathlib.Core.Bool.{Bool, true, false, not, cond, true≢false}
 use mathlib.Core.List.{[], _∷_}
-use mathlib.Core.Logic.{inr, ⊎-elim}
+use mathlib.Core.Logic.{_≢_, inr, ⊎-elim}
 use mathlib.Core.Option.{none, some}
 use native.Mathlib.Omega.{arith}
-use borrow.Author.Tests.{eqb-true, lt-ltb, ltb-true, not-true}
+use borrow.Author.Tests.{eqb-true, ltb-true, not-true}
 use lib.Dec.{eqb, ltb}
 use lib.ListN.{getD}
 use Rattle.plain.specs.Tests.{both}
 use Rattle.run.specs.Run.{one, just, picked, visits, times}
 use Rattle.run.specs.Laws.{one-no}
-use Rattle.manual.specs.Sets.{Set, _∈_, _∉_, only, _∩_, _∖_, HasSize}
-use Rattle.manual.specs.Given.{Constants, SuccessReport}
-use Rattle.manual.specs.State.{Block, Blocks, SS, by, meets, such, dom, owned, expired, put, _⩤_, Invariant, later, NewIds}
-use Rattle.manual.specs.Frames.{KeySet}
-use Rattle.manual.specs.Client.{Create, Destroy, GetIds}
+use Rattle.manual.specs.Sets.{Set, _∈_, _∉_, only, _∩_, _∪_, _∖_, HasSize}
+use Rattle.manual.specs.Given.{SuccessReport}
+use Rattle.manual.specs.State.{Block, Blocks, SS, by, meets, such, dom, owned, expired, put, _⩤_, Invariant, NewIds}
+use Rattle.manual.specs.Frames.{EndKey, KeySet}
+use Rattle.manual.specs.Client.{Create-success, Create, Destroy, GetIds}
 use Rattle.manual.specs.Manager.{Scavenge}
 use Rattle.manual.specs.Walk.{Walk, last, more, named}
-use Rattle.manual.specs.Scan.{Shows}
+use Rattle.manual.specs.Scan.{Shows, reachFor, keyAfter, idsOf}
+use Rattle.manual.specs.Example.{k, block, first, second, third, fourth}
 use Rattle.manual.proofs.Maps.{out-of, either, dom-put, such-cut}
 use Rattle.manual.proofs.Sizes.{one-size, resized, added, taken}
 use Rattle.manual.proofs.Kept.{kept}
 use Rattle.manual.proofs.Scan.{scans}
 use Rattle.manual.proofs.Complete.{complete, getIds-call}
 
-unfoldable pub k : Constants
-k =
-    record {
-      MaxBlocks = 4;
-      Manager = 0;
-      NullId = 0;
-      BlockId = λ x. ltb x 400;
-      num = λ x. x % 4;
-      time = λ x. x / 4;
-      numbered = λ x h. omega arith;
-      named = λ b l. (b, lt-ltb b 400 (omega arith), omega arith);
-    }
-
-abbrev pub block : (owner created expires : ℕ) → Block
-block owner created expires = record { owner = owner; created = created; expires = expires; bytes = [] }
-
--- ---- the stores: client 3 has blocks 0, 2 and 3, client 5 has block 1, which expires at 5; block 3 expires at 7
-
-abbrev pub first : SS
-first = record { blocks = put (put (put (put (λ x. none) 19 (block 3 4 7)) 14 (block 3 3 90)) 9 (block 5 2 5)) 4 (block 3 1 90); newids = NewIds k 4 }
-
--- client 3 destroys block 0 at 5
-abbrev pub second : SS
-second = record { blocks = only 4 ⩤ first .blocks; newids = later k 5 (first .newids) }
-
--- and creates it anew at 6
-abbrev pub third : SS
-third = record { blocks = put (second .blocks) 24 (block 3 6 90); newids = later k 6 (second .newids) }
-
--- the manager scavenges at 7: block 1 goes, and block 3 stays
-abbrev pub fourth : SS
-fourth = record { blocks = (KeySet k 4 ∖ KeySet k 0) ∩ expired 7 (third .blocks) ⩤ third .blocks; newids = later k 7 (third .newids) }
+not-so : {A : Type 0} → false ≡ true → A
+not-so e = absurd (true≢false (sym e))
 
 -- ---- what holds of each member of a set, member by member
 
@@ -78,14 +49,14 @@ module _ (t : Block → Bool) (m : Blocks) (P : ℕ → Type 0) where
 module _ (t : Block → Bool) where
   each-first : (P : ℕ → Type 0) → (t (block 3 1 90) ≡ true → P 4) → (t (block 5 2 5) ≡ true → P 9) → (t (block 3 3 90) ≡ true → P 14)
       → (t (block 3 4 7) ≡ true → P 19) → (x : ℕ) → x ∈ such t (first .blocks) → P x
-  each-first P a b c d = each-put t _ P 4 _ a (each-put t _ P 9 _ b (each-put t _ P 14 _ c (each-put t _ P 19 _ d (λ x h. absurd (true≢false (sym h))))))
+  each-first P a b c d = each-put t _ P 4 _ a (each-put t _ P 9 _ b (each-put t _ P 14 _ c (each-put t _ P 19 _ d (λ x h. not-so h))))
 
   each-third : (P : ℕ → Type 0) → (t (block 3 6 90) ≡ true → P 24) → (t (block 5 2 5) ≡ true → P 9) → (t (block 3 3 90) ≡ true → P 14)
       → (t (block 3 4 7) ≡ true → P 19) → (x : ℕ) → x ∈ such t (third .blocks) → P x
   each-third P a b c d =
       each-put t _ P 24 _ a
       (each-cut t (first .blocks) P (only 4)
-      (each-first (λ x. x ∉ only 4 → P x) (λ h o. absurd (true≢false o)) (λ h o. b h) (λ h o. c h) (λ h o. d h)))
+      (each-first (λ x. x ∉ only 4 → P x) (λ h o. not-so (sym o)) (λ h o. b h) (λ h o. c h) (λ h o. d h)))
 
 -- at each block number
 each-number : (P : ℕ → Type 0) → P 0 → P 1 → P 2 → P 3 → (b : ℕ) → b < 4 → P b
@@ -103,15 +74,12 @@ marks a b c d i = getD (a ∷ b ∷ c ∷ d ∷ []) i false
 abbrev places : (a b c d : ℕ) → ℕ → ℕ
 places a b c d i = getD (a ∷ b ∷ c ∷ d ∷ []) i 0
 
--- of a set of ids that a test gives
+-- the two halves of Shows
 abbrev Held : Set → (ℕ → Bool) → (ℕ → ℕ) → ℕ → Type 0
 Held xs mine idAt b = mine b ≡ true → (idAt b ∈ xs) × (k .num (idAt b) ≡ b)
 
 abbrev Stands : (ℕ → Bool) → (ℕ → ℕ) → ℕ → Type 0
 Stands mine idAt x = (x ∈ k .BlockId) × (mine (k .num x) ≡ true) × (idAt (k .num x) ≡ x)
-
-not-so : {A : Type 0} → false ≡ true → A
-not-so e = absurd (true≢false (sym e))
 
 -- client 3's blocks in the first store
 abbrev mine : ℕ → Bool
@@ -155,7 +123,7 @@ shows-fourth =
           (λ e o. (refl, refl, refl)) not-so (λ e o. (refl, refl, refl)) (λ e o. (refl, refl, refl)));
     }
 
--- ---- the operations, as the manual has them
+-- ---- the first store satisfies the invariants
 
 size-put : (m : Blocks) {n : ℕ} (i : ℕ) (b : Block) → i ∉ dom m → HasSize (dom m) n → HasSize (dom (put m i b)) (suc n)
 size-put m i b o a = resized (λ x. sym (dom-put m i b x)) (added (dom m) i o a)
@@ -169,24 +137,30 @@ four = size-put _ 4 _ refl (size-put _ 9 _ refl (size-put _ 14 _ refl (size-put 
 
 pub sound : Invariant k first
 unfolding k
-sound =
-    record {
-      ids = λ x h. ⊎-elim (each-first _ (λ x. x ∈ k .BlockId) (λ e. refl) (λ e. refl) (λ e. refl) (λ e. refl) x)
-          (λ n. both (k .BlockId x) (ltb 4 (k .time x)) n .0) (either (dom (first .blocks) x) (NewIds k 4 x) h);
-      few = (4, four, omega arith);
-      fresh = λ x h. out-of (dom (first .blocks) x) (λ d.
-          let l = ltb-true 4 (k .time x) (both (k .BlockId x) (ltb 4 (k .time x)) h .1) in
-          let o = each-first _ (λ x. x / 4 ≤ 4) (λ e. omega arith) (λ e. omega arith) (λ e. omega arith) (λ e. omega arith) x d in
-          omega arith);
-      null = refl;
-    }
+sound = record { ids = known; few = (4, four, omega arith); fresh = fresh; null = refl }
+  where
+    known : (x : ℕ) → x ∈ dom (first .blocks) ∪ first .newids → x ∈ k .BlockId
+    known x h =
+        ⊎-elim (each-first _ (λ x. x ∈ k .BlockId) (λ e. refl) (λ e. refl) (λ e. refl) (λ e. refl) x)
+        (λ n. both (k .BlockId x) (ltb 4 (k .time x)) n .0) (either (dom (first .blocks) x) (NewIds k 4 x) h)
+
+    fresh : (x : ℕ) → x ∈ first .newids → x ∉ dom (first .blocks)
+    fresh x h =
+        let l = ltb-true 4 (k .time x) (both (k .BlockId x) (ltb 4 (k .time x)) h .1) in
+        let early = each-first (λ b. true) (λ x. x / 4 ≤ 4) (λ e. omega arith) (λ e. omega arith) (λ e. omega arith) (λ e. omega arith) in
+        out-of (dom (first .blocks) x) (λ d. omega (arith, early x d))
+
+-- ---- the three operations, and what they keep
 
 one-block : {a b : Block} → some a ≡ some b → a ≡ b
 one-block e = cc
 
 pub destroyed : Destroy k (by 3 5 SuccessReport) first second 4
 unfolding k
-destroyed = inr (λ e. not-so (sym e), inr (λ n. n .2 (sym (ap (λ b. b .owner) (one-block (n .1)))), (record { block = block 3 1 90; old = refl; blocks = λ x. refl; newids = λ x. refl }, refl)))
+destroyed = inr (λ e. not-so (sym e), inr (mine-only, (record { block = block 3 1 90; old = refl; blocks = λ x. refl; newids = λ x. refl }, refl)))
+  where
+    mine-only : (b : Block) × (first .blocks 4 ≡ some b) × (b .owner ≢ 3) → ⊥
+    mine-only n = n .2 (sym (ap (λ b. b .owner) (one-block (n .1))))
 
 not-full : HasSize (dom (second .blocks)) 4 → ⊥
 not-full h =
@@ -194,11 +168,9 @@ not-full h =
     let e = one-size (such-cut (λ b. true) (only 4) (first .blocks)) h (t .1) in
     omega (arith, t .2)
 
-pub created : Create k (by 3 6 SuccessReport) second third 90 [] 24
+new : Create-success k (by 3 6 SuccessReport) second third 90 [] 24
 unfolding k
-created = inr (
-  not-full,
-  (
+new =
     record {
       newblock = block 3 6 90;
       new = record { owner = refl; created = refl; new = refl; made = refl };
@@ -206,16 +178,16 @@ created = inr (
       bytes = refl;
       blocks = λ x. refl;
       newids = λ x. refl;
-    },
-    refl,
-  ),
-)
+    }
+
+pub created : Create k (by 3 6 SuccessReport) second third 90 [] 24
+unfolding k
+created = inr (not-full, (new, refl))
 
 pub scavenged : Scavenge k (by 0 7 SuccessReport) third fourth 0 4 1
 unfolding k picked just
 scavenged = scans k .scavenge {p = by 0 7 SuccessReport} {s = third} {s′ = fourth} shows-third 0 (omega arith) refl refl (λ x. refl) (λ x. refl)
 
--- the first store satisfies the invariants, and so does the last
 pub still-sound : Invariant k fourth
 still-sound =
     let a = kept k .destroy {p = by 3 5 SuccessReport} {id? = 4} first second sound destroyed .invariant in
@@ -224,29 +196,32 @@ still-sound =
 
 -- ---- the walk: client 3 asks for one id at a time, and the three operations come after the first call
 
+-- a call for one id
+ask : (s : SS) (ids : ℕ → ℕ) → Shows k (owned 3 (s .blocks)) mine ids → (key? : ℕ) → key? < EndKey k
+    → GetIds k (by 3 0 SuccessReport) s s key? 1 (keyAfter k mine key? (reachFor k mine 1 key?)) (idsOf k mine ids key? (reachFor k mine 1 key?))
+ask s ids h key? l = scans k .getIds {p = by 3 0 SuccessReport} h key? 1 l (omega arith) refl (record { blocks = λ x. refl; newids = λ x. refl })
+
 pub got-first : GetIds k (by 3 0 SuccessReport) first first 0 1 1 (4 ∷ [])
 unfolding k picked just visits one
-got-first = scans k .getIds {p = by 3 0 SuccessReport} {s = first} {s′ = first} shows-first 0 1 (omega arith) (omega arith) refl (record { blocks = λ x. refl; newids = λ x. refl })
+got-first = ask first ids shows-first 0 (omega arith)
 
 pub got-second : GetIds k (by 3 0 SuccessReport) fourth fourth 1 1 3 (14 ∷ [])
 unfolding k picked just visits one
-got-second = scans k .getIds {p = by 3 0 SuccessReport} {s = fourth} {s′ = fourth} shows-fourth 1 1 (omega arith) (omega arith) refl (record { blocks = λ x. refl; newids = λ x. refl })
+got-second = ask fourth ids′ shows-fourth 1 (omega arith)
 
 pub got-third : GetIds k (by 3 0 SuccessReport) fourth fourth 3 1 4 (19 ∷ [])
 unfolding k picked just visits one
-got-third = scans k .getIds {p = by 3 0 SuccessReport} {s = fourth} {s′ = fourth} shows-fourth 3 1 (omega arith) (omega arith) refl (record { blocks = λ x. refl; newids = λ x. refl })
+got-third = ask fourth ids′ shows-fourth 3 (omega arith)
 
-abbrev pub listed : SS → Set
-listed s = owned 3 (s .blocks)
-
-abbrev pub walk : Walk k listed first 0
+abbrev pub walk : Walk k (λ s. owned 3 (s .blocks)) first 0
 unfolding k
 walk =
     more 1 (4 ∷ []) 1 (getIds-call k got-first refl) (second ∷ third ∷ []) fourth
     (more 2 (14 ∷ []) 3 (getIds-call k got-second refl) [] fourth
     (last 1 (19 ∷ []) (getIds-call k got-third refl)))
 
--- block 2 was there throughout: it is named once, though block 0 was removed and made anew, and block 1 removed, before its turn came
+-- the theorem applies: block 2 was there throughout and is named once, though block 0 was removed and made anew, and block 1 removed,
+-- before its turn came
 pub named-once : times 14 (named walk) ≡ 1
 unfolding k
 named-once = complete walk .once 14 refl (refl, (refl, (refl, tt)), (refl, tt, refl))

@@ -9,7 +9,7 @@ use mathlib.Core.Option.{Option, none, some}
 use native.Mathlib.Omega.{arith}
 use Rattle.manual.specs.Sets.{Set, only, _≈_}
 use Rattle.manual.specs.Given.{Constants, Report, SuccessReport, NoSuchBlockReport, NoSpaceReport, NotOwnerReport, BadKeyReport, NotManagerReport}
-use Rattle.manual.specs.State.{BlockInfo, Block, Blocks, SS, φBasicParams, by, put, _⩤_, ΞSS}
+use Rattle.manual.specs.State.{BlockInfo, Block, Blocks, SS, by, put, _⩤_, ΞSS}
 use Rattle.manual.specs.Reports.{Failed}
 use Rattle.manual.specs.Client.{Create-success, Replace-success, SetExpiry-success}
 use Rattle.manual.specs.Tariff.{Costs}
@@ -69,24 +69,21 @@ cut-same : {X Y : Set} (m : Blocks) → X ≈ Y → X ⩤ m ≈ Y ⩤ m
 cut-same m e x = ap (λ (t : Bool). cond t none (m x)) (e x)
 
 module _ (k : Constants) (c n : ℕ) (r r′ : Report) (s s′ s″ : SS) where
-  abbrev p : φBasicParams
-  p = by c n r
-
-  abbrev q : φBasicParams
-  q = by c n r′
-
-  create : {expiry? : ℕ} {data? : List ℕ} {id! : ℕ} → Create-success k p s s′ expiry? data? id! → Create-success k q s s″ expiry? data? id! → ΞSS s′ s″
+  create : {expiry? : ℕ} {data? : List ℕ} {id! : ℕ}
+      → Create-success k (by c n r) s s′ expiry? data? id! → Create-success k (by c n r′) s s″ expiry? data? id! → ΞSS s′ s″
   create {expiry?} {data?} {id! } a b =
       let new = same-block (a .newblock) (b .newblock) (cc) (cc) (cc) (cc) in
       one-state s′ s″ (put-same (s .blocks) id! new) (a .blocks) (b .blocks) (a .newids) (b .newids)
 
-  replace : {id? : ℕ} {data? : List ℕ} {id! : ℕ} → Replace-success k p s s′ id? data? id! → Replace-success k q s s″ id? data? id! → ΞSS s′ s″
+  replace : {id? : ℕ} {data? : List ℕ} {id! : ℕ}
+      → Replace-success k (by c n r) s s′ id? data? id! → Replace-success k (by c n r′) s s″ id? data? id! → ΞSS s′ s″
   replace {id?} {data?} {id! } a b =
       let old = same-old (a .old) (b .old) in
       let new = same-block (a .newblock) (b .newblock) (cc) (cc) (cc) (cc) in
       one-state s′ s″ (put-same (only id? ⩤ s .blocks) id! new) (a .blocks) (b .blocks) (a .newids) (b .newids)
 
-  setExpiry : {id? expiry? : ℕ} → SetExpiry-success k p s s′ id? expiry? → SetExpiry-success k q s s″ id? expiry? → ΞSS s′ s″
+  setExpiry : {id? expiry? : ℕ}
+      → SetExpiry-success k (by c n r) s s′ id? expiry? → SetExpiry-success k (by c n r′) s s″ id? expiry? → ΞSS s′ s″
   setExpiry {id?} a b =
       let old = same-old (a .old) (b .old) in
       let new = same-block (a .newblock) (b .newblock) (cc) (cc) (cc) (cc) in

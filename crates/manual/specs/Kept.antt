@@ -11,8 +11,8 @@ use Rattle.manual.specs.Client.{Create-success, Create, Read, Status, De
 use Rattle.manual.specs.Manager.{Scavenge, Profile}
 
 module _ (k : Constants) where
-  -- the invariants hold afterwards; and as PRG-62's own rule has it, newids′ = newids \ dom blocks′, any id issued is removed from the set
-  -- of new ids and so can never be issued again. (Document 01's rule also removes ids that were never issued, so that one set is part of the other.)
+  -- the invariants hold afterwards; and any id issued is removed from the set of new ids, and so can never be issued again: newids′ is part
+  -- of newids \ dom blocks′, to which PRG-62's own rule sets it (document 01's also removes ids that were never issued)
   pub record Keeps (s s′ : SS) : Type 0 where
     pub invariant : Invariant k s′
     pub issued : s′ .newids ⊆ s .newids ∖ dom (s′ .blocks)

@@ -10,3 +10,4 @@ pub mod Walk
 pub mod Scan
 pub mod Kept
 pub mod Settled
+pub mod Example

@@ -12,7 +12,7 @@ use Rattle.manual.specs.Given.{Constants}
 use Rattle.manual.specs.State.{BlockInfo, SS, φBasicParams, dom, owned, expired, _⩤_, ΔSS, ΞSS}
 use Rattle.manual.specs.Frames.{EndKey, KeySet}
 use Rattle.manual.specs.Reports.{Success}
-use Rattle.manual.specs.Client.{GetIds}
+use Rattle.manual.specs.Client.{GetIds-success, GetIds}
 use Rattle.manual.specs.Manager.{infoOf, Scavenge, Profile}
 use Rattle.manual.specs.Walk.{Call}
 
@@ -56,3 +56,10 @@ module _ (k : Constants) where
         → (key? : ℕ) → key? < EndKey k → p .clientnum ≡ k .Manager → Success p → ΞSS s s′
         → (infoseq! : List BlockInfo) → map some infoseq! ≡ map (λ x. infoOf (s .blocks x)) (idsOf test idAt key? (reach key?))
         → Profile k p s s′ key? (keyAfter test key? (reach key?)) (idsOf test idAt key? (reach key?)) infoseq!
+
+  -- PRG-62 lets GetIds ask for zero ids though its key must grow: both cannot hold where the next block is the client's (proofs/Complete.antt).
+  -- So document 01 refuses a count? of 0.
+  abbrev pub NoZeroCount : Type 0
+  NoZeroCount =
+      (p : φBasicParams) (s s′ : SS) (x key! : ℕ) (idset! : List ℕ) → x ∈ k .BlockId → x ∈ owned (p .clientnum) (s .blocks)
+      → GetIds-success k p s s′ (k .num x) 0 key! idset! → ⊥
