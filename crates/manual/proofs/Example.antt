@@ -21,7 +21,7 @@ use Rattle.manual.specs.Frames.{EndKey, KeySet}
 use Rattle.manual.specs.Client.{Create-success, Create, Destroy, GetIds}
 use Rattle.manual.specs.Manager.{Scavenge}
 use Rattle.manual.specs.Walk.{Walk, last, more, named}
-use Rattle.manual.specs.Scan.{Shows, reachFor, keyAfter, idsOf}
+use Rattle.manual.specs.Scan.{Shows, passFor}
 use Rattle.manual.specs.Example.{k, block, first, second, third, fourth}
 use Rattle.manual.proofs.Maps.{out-of, either, dom-put, such-cut}
 use Rattle.manual.proofs.Sizes.{one-size, resized, added, taken}
@@ -198,7 +198,7 @@ still-sound =
 
 -- a call for one id
 ask : (s : SS) (ids : ℕ → ℕ) → Shows k (owned 3 (s .blocks)) mine ids → (key? : ℕ) → key? < EndKey k
-    → GetIds k (by 3 0 SuccessReport) s s key? 1 (keyAfter k mine key? (reachFor k mine 1 key?)) (idsOf k mine ids key? (reachFor k mine 1 key?))
+    → GetIds k (by 3 0 SuccessReport) s s key? 1 (passFor k mine ids 1 key? .key!) (passFor k mine ids 1 key? .ids)
 ask s ids h key? l = scans k .getIds {p = by 3 0 SuccessReport} h key? 1 l (omega arith) refl (record { blocks = λ x. refl; newids = λ x. refl })
 
 pub got-first : GetIds k (by 3 0 SuccessReport) first first 0 1 1 (4 ∷ [])

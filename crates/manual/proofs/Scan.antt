@@ -16,7 +16,7 @@ use Rattle.run.specs.Laws.{one-yes, one-no, just-yes, just-no, times-append, vi
 use Rattle.manual.specs.Sets.{Set, _∈_, _∉_, Lists}
 use Rattle.manual.specs.Given.{Constants}
 use Rattle.manual.specs.Frames.{EndKey, φKey}
-use Rattle.manual.specs.Scan.{Shows, reach, reachFor, keyAfter, idsOf, Scans}
+use Rattle.manual.specs.Scan.{Shows, reach, reachFor, scan, Scans}
 use Rattle.manual.proofs.Maps.{out-of}
 use Rattle.manual.proofs.Keys.{part, Between, between-in, between-out, larger-set}
 
@@ -43,7 +43,7 @@ module _ (k : Constants) {xs : Set} {test : ℕ → Bool} {idAt : ℕ → ℕ} (
 
   module _ (key? visited : ℕ) (fits : key? + visited ≤ EndKey k) where
     abbrev key! : ℕ
-    key! = keyAfter k test key? visited
+    key! = scan k test idAt key? visited .key!
 
     -- an id that is not between the keys
     outside : (x : ℕ) → (Between k key? key! xs x → ⊥) → one (part k key? key! xs) x ≡ 0
@@ -62,7 +62,7 @@ module _ (k : Constants) {xs : Set} {test : ℕ → Bool} {idAt : ℕ → ℕ} (
         (lt-or-le (k .num x) (key? + visited)))
         (lt-or-le (k .num x) key?)
 
-    lists : Lists (idsOf k test idAt key? visited) (part k key? key! xs)
+    lists : Lists (scan k test idAt key? visited .ids) (part k key? key! xs)
     lists x =
         ⊎-elim
         (λ (e : x ∈ xs).
@@ -103,7 +103,7 @@ scans k =
             inr (
               λ b. omega arith,
               (
-                record { subxs = _; keys = keys k h key? _ fits (omega arith); count = (_, lists k h key? _ fits, simp length-map); blocks = gone; newids = ids },
+                record { subxs = _; keys = keys k h key? _ fits (omega arith); count = (_, lists k h key? _ fits, refl); blocks = gone; newids = ids },
                 ok,
               ),
             ),

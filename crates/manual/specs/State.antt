@@ -15,7 +15,7 @@ pub record BlockInfo : Type 0 where
   pub created : ℕ
   pub expires : ℕ
 
--- Block: BlockInfo, and data : BlockData
+-- Block: BlockInfo, and data : BlockData, which is called bytes here
 pub record Block : Type 0 where
   pub owner : ℕ
   pub created : ℕ
