@@ -14,7 +14,7 @@ use Rattle.run.specs.Run.{times}
 use Rattle.run.specs.Laws.{one-no}
 use Rattle.manual.specs.Sets.{Set, _∈_, _∉_, only, _∪_, _⊆_, _≈_, HasSize}
 use Rattle.manual.specs.Given.{Constants, Report}
-use Rattle.manual.specs.State.{Block, Blocks, SS, φBasicParams, dom, meets, put, _⩤_, Invariant, InitSS, ΔSS, ΞSS}
+use Rattle.manual.specs.State.{Block, Blocks, SS, φBasicParams, dom, meets, put, _⩤_, Invariant, InitSS, later, NewIds, ΔSS, ΞSS}
 use Rattle.manual.specs.Frames.{φNewBlock}
 use Rattle.manual.specs.Reports.{Failed}
 use Rattle.manual.specs.Client.{Create-success, Destroy-success, Replace-success, SetExpiry-success}
@@ -180,7 +180,9 @@ pub new-ids : (k : Constants) → NewIdsRead k
 new-ids k =
     record {
       start = λ {s′} z t e x. e .newids x ∙ started z t x (k .BlockId x) refl (eqb x (k .NullId)) refl;
-      moved = λ p s s′ clock l r δ x. δ x ∙ rw (r x) (later-later (k .BlockId x) clock (p .now) (k .time x) l);
+      moved = λ p s s′ clock l r.
+          let both-later : later k (p .now) (s .newids) ≈ NewIds k (p .now) = λ x. rw (r x) (later-later (k .BlockId x) clock (p .now) (k .time x) l) in
+          (λ δ x. δ x ∙ both-later x, λ e x. e x ∙ sym (both-later x));
     }
   where
     started : k .time (k .NullId) ≡ 0 → ((x : ℕ) → x ∈ k .BlockId → x ≢ k .NullId → 0 < k .time x)

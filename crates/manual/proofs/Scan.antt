@@ -8,22 +8,27 @@ use mathlib.Core.Logic.{inr, ⊎-elim}
 use native.Mathlib.Omega.{arith}
 use borrow.Author.Tests.{eqb-true, eqb-false, eq-eqb, ne-eqb}
 use lib.Dec.{eqb}
-use lib.ListN.{length-map}
+use lib.ListN.{length, length-map}
 use Rattle.plain.specs.Numbers.{lt-or-le}
 use Rattle.plain.specs.Tests.{decide}
 use Rattle.run.specs.Run.{one, just, picked, times}
-use Rattle.run.specs.Laws.{one-yes, one-no, just-yes, just-no, times-append, visits-le, visits-pos, picked-le, picked-none-below, picked-none-above, picked-once}
-use Rattle.manual.specs.Sets.{Set, _∈_, _∉_, Lists}
+use Rattle.run.specs.Laws.{one-yes, one-no, just-yes, just-no, times-append, visits-le, visits-pos, picked-le, picked-few, picked-none-below, picked-none-above, picked-once}
+use Rattle.manual.specs.Sets.{Set, _∈_, _∉_, _≈_, Lists, HasSize}
 use Rattle.manual.specs.Given.{Constants}
 use Rattle.manual.specs.Frames.{EndKey, φKey}
 use Rattle.manual.specs.Scan.{Shows, reach, reachFor, scan, Scans}
 use Rattle.manual.proofs.Maps.{out-of}
+use Rattle.manual.proofs.Sizes.{resized}
 use Rattle.manual.proofs.Keys.{part, Between, between-in, between-out, larger-set}
 
 -- eqb x u and eqb y v agree where x is u exactly if y is v
 agree : (x u y v : ℕ) → (x ≡ u → y ≡ v) → (y ≡ v → x ≡ u) → eqb x u ≡ eqb y v
 agree x u y v f g =
     ⊎-elim (λ e. e ∙ sym (eq-eqb y v (f (eqb-true x u e)))) (λ e. e ∙ sym (ne-eqb y v (λ q. eqb-false x u e (g q)))) (decide (eqb x u))
+
+-- a member is not what is none
+differ : (X : Set) {x y : ℕ} → x ∉ X → y ∈ X → x ≡ y → ⊥
+differ X o i q = true≢false (sym i ∙ ap X (sym q) ∙ o)
 
 module _ (k : Constants) {xs : Set} {test : ℕ → Bool} {idAt : ℕ → ℕ} (h : Shows k xs test idAt) where
   -- x among the ids as often as y among the numbers, where x stands at y alone
@@ -69,14 +74,29 @@ module _ (k : Constants) {xs : Set} {test : ℕ → Bool} {idAt : ℕ → ℕ} (
         let t = h .stands x e in
         twin x (k .num x) (λ b l p. (λ q. ap (k .num) q ∙ h .holds b l p .1, λ q. sym (t .2) ∙ ap idAt q)) key? visited fits ∙ listed x e)
         (λ (e : x ∉ xs).
-        let other : (b : ℕ) → b < k .MaxBlocks → test b ≡ true → x ≡ idAt b → ⊥ = λ b l p q. true≢false (sym (h .holds b l p .0) ∙ ap xs (sym q) ∙ e) in
-        twin x (k .MaxBlocks) (λ b l p. (λ q. absurd (other b l p q), λ q. absurd (omega arith))) key? visited fits
+        twin x (k .MaxBlocks) (λ b l p. (λ q. absurd (differ xs e (h .holds b l p .0) q), λ q. absurd (omega arith))) key? visited fits
         ∙ picked-none-above test key? visited (k .MaxBlocks) fits
         ∙ sym (outside x (λ b. true≢false (sym (b .listed) ∙ e))))
         (decide (xs x))
 
     keys : 0 < visited → φKey k key? key! xs (part k key? key! xs)
     keys pos = record { valid = omega arith; grows = larger-set k key? key! (omega arith) (omega arith); part = λ x. refl }
+
+  -- all the numbers: the whole set
+  whole : part k 0 (k .MaxBlocks) xs ≈ xs
+  whole x =
+      ⊎-elim
+      (λ (e : x ∈ xs).
+      let i = h .stands x e .0 in
+      between-in k 0 (k .MaxBlocks) xs x (record { id = i; from = omega arith; below = k .numbered x i; listed = e }) ∙ sym e)
+      (λ (e : x ∉ xs). out-of _ (λ i. true≢false (sym (between-out k 0 (k .MaxBlocks) xs x i .listed) ∙ e)) ∙ sym e)
+      (decide (xs x))
+
+  size : HasSize xs (length (picked test 0 (k .MaxBlocks)))
+  size =
+      let e : 0 + k .MaxBlocks ≡ k .MaxBlocks = omega arith in
+      let l = lists 0 (k .MaxBlocks) (omega arith) in
+      resized whole (_, rw e at l, simp length-map)
 
 -- what may be visited from a key below the end key: one number at least, and none past the last
 visit-fits : (k : Constants) (test : ℕ → Bool) (key? count? : ℕ) → key? < EndKey k → 0 < count?
@@ -89,6 +109,7 @@ scans k =
     record {
       call = λ h key? visited pos fits.
           record { subxs = _; keys = keys k h key? visited fits pos; names = lists k h key? visited fits; distance = refl };
+      size = λ h. size k h;
       getIds = λ {p} {s} {s′} {test} h key? count? l c ok same.
           let v = visit-fits k test key? count? l c in
           let few = picked-le test (reach k key?) count? key? in
@@ -108,13 +129,25 @@ scans k =
               ),
             ),
           );
-      profile = λ h key? l m ok same infoseq! infos.
+      profile = λ {p} {s} {s′} {test} h most key? l m ok same infoseq! infos.
           let fits : key? + reach k key? ≤ EndKey k = omega arith in
+          let few = picked-few test key? (reach k key?) in
+          let size = simp length-map at (ap length infos) in
           inr (
             λ n. n m,
             inr (
               λ b. omega arith,
-              (record { subxs = _; keys = keys k h key? _ fits (omega arith); ordered = lists k h key? _ fits; infoseq = infos; same = same }, ok),
+              (
+                record {
+                  subxs = _;
+                  keys = keys k h key? _ fits (omega arith);
+                  ordered = lists k h key? _ fits;
+                  infoseq = infos;
+                  limited = omega arith;
+                  same = same;
+                },
+                ok,
+              ),
             ),
           );
     }

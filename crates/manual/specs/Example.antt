@@ -15,6 +15,7 @@ unfoldable pub k : Constants
 k =
     record {
       MaxBlocks = 4;
+      MaxInfos = 64;
       Manager = 0;
       NullId = 0;
       BlockId = λ x. ltb x 400;

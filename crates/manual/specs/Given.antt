@@ -7,6 +7,7 @@ use Rattle.manual.specs.Sets.{Set, _∈_}
 -- what an implementation settles; document 01 does it for each number of blocks
 pub record Constants : Type 0 where
   pub MaxBlocks : ℕ
+  pub MaxInfos : ℕ
   pub Manager : ℕ
   pub NullId : ℕ
   -- [BlockId]. It is finite in PRG-62; no law here needs that, since the block numbers are finitely many.

@@ -34,12 +34,12 @@ module _ (k : Constants) where
     pub profile : {p : φBasicParams} {key? key! : ℕ} {order : List ℕ} {infoseq! : List BlockInfo}
         → Keeping (λ s s′. Profile k p s s′ key? key! order infoseq!)
 
-  -- document 01's set of new ids: it is InitSS's at clock 0, where NullId alone has no time, and it follows the clock
+  -- document 01's set of new ids: it is InitSS's at clock 0, where NullId alone has no time, and ΔSS says that it follows the clock
   pub record NewIdsRead : Type 0 where
     pub start : {s′ : SS} → k .time (k .NullId) ≡ 0 → ((x : ℕ) → x ∈ k .BlockId → x ≢ k .NullId → 0 < k .time x)
         → InitSS k s′ → s′ .newids ≈ NewIds k 0
     pub moved : (p : φBasicParams) (s s′ : SS) (clock : ℕ) → clock ≤ p .now → s .newids ≈ NewIds k clock
-        → ΔSS k p s s′ → s′ .newids ≈ NewIds k (p .now)
+        → ΔSS k p s s′ ↔ (s′ .newids ≈ NewIds k (p .now))
 
   -- created ≤ expires: so for a block that Create or SetExpiry stores; for one that Replace stores, only if the old one had not expired
   pub record Dated : Type 0 where

@@ -1,8 +1,9 @@
 -- PRG-62, User Manual, section 5.2: the two operations of the service manager.
-use Prim.Native.Nat.{ℕ}
+use Prim.Native.Nat.{ℕ, _≤_}
 use mathlib.Core.Path.{_≡_}
 use mathlib.Core.List.{List, map}
 use mathlib.Core.Option.{Option, none, some}
+use lib.ListN.{length}
 use Rattle.manual.specs.Sets.{Set, _≈_, Lists, HasSize}
 use Rattle.manual.specs.Given.{Constants}
 use Rattle.manual.specs.State.{BlockInfo, Block, SS, φBasicParams, info, dom, expired, _⩤_, ΔSS, ΞSS}
@@ -31,12 +32,14 @@ infoOf none = none
 infoOf (some b) = some (info b)
 
 module _ (k : Constants) (p : φBasicParams) (s s′ : SS) (key? key! : ℕ) (order : List ℕ) (infoseq! : List BlockInfo) where
-  -- xs = dom blocks, dom order = 1..#subxs, ran order = subxs, infoseq! = λ i : dom order • blocks(order(i)) ↾ BlockInfo
+  -- xs = dom blocks, dom order = 1..#subxs, ran order = subxs, infoseq! = λ i : dom order • blocks(order(i)) ↾ BlockInfo;
+  -- infoseq! : BlockInfoSeq, so #infoseq! ≤ MaxInfos
   pub record Profile-success : Type 0 where
     pub subxs : Set
     pub keys : φKey k key? key! (dom (s .blocks)) subxs
     pub ordered : Lists order subxs
     pub infoseq : map some infoseq! ≡ map (λ x. infoOf (s .blocks x)) order
+    pub limited : length infoseq! ≤ k .MaxInfos
     pub same : ΞSS s s′
 
   abbrev pub Profile : Type 0

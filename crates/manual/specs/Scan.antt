@@ -7,7 +7,7 @@ use mathlib.Core.List.{List, map}
 use mathlib.Core.Option.{some}
 use lib.ListN.{length}
 use Rattle.run.specs.Run.{picked, visits}
-use Rattle.manual.specs.Sets.{Set, _∈_, _∩_, _∖_, _≈_}
+use Rattle.manual.specs.Sets.{Set, _∈_, _∩_, _∖_, _≈_, HasSize}
 use Rattle.manual.specs.Given.{Constants}
 use Rattle.manual.specs.State.{BlockInfo, SS, φBasicParams, dom, owned, expired, _⩤_, ΔSS, ΞSS}
 use Rattle.manual.specs.Frames.{EndKey, KeySet}
@@ -57,6 +57,9 @@ module _ (k : Constants) where
     pub call : {xs : Set} {test : ℕ → Bool} {idAt : ℕ → ℕ} → Shows xs test idAt
         → (key? visited : ℕ) → 0 < visited → key? + visited ≤ EndKey k
         → Call k xs key? (scan test idAt key? visited .key!) visited (scan test idAt key? visited .ids)
+    -- the set has as many members as there are numbers that pass
+    pub size : {xs : Set} {test : ℕ → Bool} {idAt : ℕ → ℕ} → Shows xs test idAt → HasSize xs (length (picked test 0 (k .MaxBlocks)))
+    -- and so the three operations, where document 01 does not refuse them
     pub getIds : {p : φBasicParams} {s s′ : SS} {test : ℕ → Bool} {idAt : ℕ → ℕ} → Shows (owned (p .clientnum) (s .blocks)) test idAt
         → (key? count? : ℕ) → key? < EndKey k → 0 < count? → Success p → ΞSS s s′
         → GetIds k p s s′ key? count? (passFor test idAt count? key? .key!) (passFor test idAt count? key? .ids)
@@ -65,7 +68,7 @@ module _ (k : Constants) where
         → s′ .blocks ≈ (KeySet k (pass test idAt key? .key!) ∖ KeySet k key?) ∩ expired (p .now) (s .blocks) ⩤ s .blocks
         → ΔSS k p s s′
         → Scavenge k p s s′ key? (pass test idAt key? .key!) (length (pass test idAt key? .ids))
-    pub profile : {p : φBasicParams} {s s′ : SS} {test : ℕ → Bool} {idAt : ℕ → ℕ} → Shows (dom (s .blocks)) test idAt
+    pub profile : {p : φBasicParams} {s s′ : SS} {test : ℕ → Bool} {idAt : ℕ → ℕ} → Shows (dom (s .blocks)) test idAt → 64 ≤ k .MaxInfos
         → (key? : ℕ) → key? < EndKey k → p .clientnum ≡ k .Manager → Success p → ΞSS s s′
         → (infoseq! : List BlockInfo) → map some infoseq! ≡ map (λ x. infoOf (s .blocks x)) (pass test idAt key? .ids)
         → Profile k p s s′ key? (pass test idAt key? .key!) (pass test idAt key? .ids) infoseq!
