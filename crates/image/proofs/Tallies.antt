@@ -2,7 +2,7 @@
 -- Assumes nothing.
 use Prim.Native.Nat.{ℕ, _+_, _-_, _*_, _≤_, _<_}
 use mathlib.Core.Path.{_≡_, refl, sym, ap, _∙_}
-use mathlib.Core.Bool.{Bool, true, false, not, cond, _&&_, _||_}
+use mathlib.Core.Bool.{Bool, true, false, not, cond, _&&_, _||_, true≢false}
 use mathlib.Core.List.{List, [], _∷_, map, map-append}
 use native.Mathlib.Decide.{ℕ-discrete}
 use native.Mathlib.Omega.{arith}
@@ -10,7 +10,7 @@ use borrow.Author.Tests.{eqb-true, leb-true, eq-eqb, ne-eqb}
 use lib.Dec.{eqb}
 use lib.ListN.{length, take, drop, getD, set, length-set}
 use lib.Seq.{getD-set-same, getD-set-other}
-use Rattle.plain.specs.Tests.{when, clash, both, nth}
+use Rattle.plain.specs.Tests.{when, both, nth}
 use Rattle.word.specs.Word.{part, le, allZero}
 use Rattle.word.specs.Laws.{length-part}
 use Rattle.word.proofs.Lent.{lent-part}
@@ -36,9 +36,9 @@ unfolding goodHeader usedRight
 owner-below clock b f h e u = go (allZero h) refl (usedRight clock b h) refl f e
   where
     go : (z : Bool) → allZero h ≡ z → (r : Bool) → usedRight clock b h ≡ r → (f : Bool) → ((z && f) || (r && not f)) ≡ true → ownerOf h < 64
-    go true p r q f e = absurd (clash (sym u ∙ zero-unused h p))
+    go true p r q f e = absurd (true≢false (sym u ∙ zero-unused h p))
     go false p true q f e = omega (arith, leb-true (ownerOf h) 63 (nth _ 3 q))
-    go false p false q f e = absurd (clash (sym e))
+    go false p false q f e = absurd (true≢false (sym e))
 
 pub client : (img : List ℕ) (b : ℕ) → good img b ≡ true → isUsed (headerOf img b) ≡ true → ownerOf (headerOf img b) < 64
 unfolding good

@@ -2,14 +2,14 @@
 -- Assumes nothing.
 use Prim.Native.Nat.{ℕ, _+_, _≤_, _<_}
 use mathlib.Core.Path.{_≡_, refl, sym, _∙_, subst}
-use mathlib.Core.Bool.{Bool, true, false, _&&_, _||_, and-false}
+use mathlib.Core.Bool.{Bool, true, false, _&&_, _||_, and-false, true≢false}
 use mathlib.Core.Logic.{⊎-elim}
 use mathlib.Core.List.{List, [], _∷_}
 use native.Mathlib.Omega.{arith}
 use borrow.Author.Tests.{eq-eqb, ne-eqb, leb-true}
 use lib.Dec.{eqb, leb}
 use Rattle.plain.specs.Numbers.{lt-or-le}
-use Rattle.plain.specs.Tests.{when, clash, both}
+use Rattle.plain.specs.Tests.{when, both}
 use Rattle.kinds.specs.Report.{numberOf}
 use Rattle.kinds.specs.Laws.{injective}
 use Rattle.kinds.specs.declared.Report.{Report}
@@ -63,8 +63,8 @@ given (r ∷ rs) b one h =
 lower : (rows : List Row) (r s : Report) → Given rows r → Given rows s → numberOf r < numberOf s → ⊥
 lower rows r s g h l =
     ⊎-elim
-    (λ (z : 0 < numberOf r). clash (sym (g .refused z) ∙ h .first (numberOf r) l))
-    (λ (z : numberOf r ≤ 0). clash (sym (h .refused (omega arith)) ∙ g .clear (omega arith) (numberOf s)))
+    (λ (z : 0 < numberOf r). true≢false (sym (g .refused z) ∙ h .first (numberOf r) l))
+    (λ (z : numberOf r ≤ 0). true≢false (sym (h .refused (omega arith)) ∙ g .clear (omega arith) (numberOf s)))
     (lt-or-le 0 (numberOf r))
 
 alone : (rows : List Row) (r s : Report) → Given rows r → Given rows s → r ≡ s

@@ -3,12 +3,12 @@
 -- Assumes nothing.
 use Prim.Native.Nat.{ℕ, _+_, _≤_}
 use mathlib.Core.Path.{_≡_, refl, sym, ap, _∙_}
+use mathlib.Core.Bool.{true≢false}
 use native.Mathlib.Omega.{arith}
 use borrow.Author.Needs.{needs}
 use borrow.Author.Tests.{not-true, not-false}
 use denote.Ref.{now}
 use lib.ListN.{length, getD}
-use Rattle.plain.specs.Tests.{clash}
 use Rattle.run.specs.Run.{allOf, times}
 use Rattle.run.proofs.Turns.{all-turn, all-stop, all-end}
 use Rattle.promise.specs.Map.{good}
@@ -43,7 +43,7 @@ returns c =
     let v = c .before .before .before in
     let l = v .before .before .before .loop in (
       all-stop _ (l .b) (l .left) (v .before .before .loop-test .taken) (sym (v .visit .ensures .0) ∙ not-true _ (c .if1 .taken)) ∙ l .inv .1,
-      λ e. absurd (clash (sym e)),
+      λ e. absurd (true≢false (sym e)),
     )
 
 loop-again : tie.Need-loop-again Inv-loop μ-loop

@@ -1,0 +1,13 @@
+pub mod Sets
+pub mod Given
+pub mod State
+pub mod Frames
+pub mod Reports
+pub mod Client
+pub mod Manager
+pub mod Tariff
+pub mod Walk
+pub mod Scan
+pub mod Kept
+pub mod Settled
+pub mod Example
