@@ -1,5 +1,6 @@
 -- `image::sound::tally_header` meets its contract: the owner of a used header is a place of the tally.
 -- Assumes nothing.
+use Prim.Native.Nat.{_<_}
 use mathlib.Core.Path.{sym, ap, _∙_}
 use native.Mathlib.Omega.{arith}
 use denote.Ref.{now}
@@ -9,28 +10,18 @@ use borrow.Author.Needs.{needs}
 use Rattle.image.proofs.sound.tally_header.Statement.{statement}
 use Rattle.image.proofs.sound.tally_header.Tie as tie
 
-slice-read-t : tie.Need-slice-read-t
-slice-read-t c =
+-- the owner of a used header is a client
+place : (c : tie.After-slice-known2) → c .before .before .owner .result .0 < 64
+place c =
     let o = c .before .before in
     let p = o .before in
-    let pre = p .before .before .before .before .pre in
     let used = sym (p .before .is-used .ensures) ∙ p .if1 .taken in
-    let its = ap (λ (x : User). x .0) (o .owner .ensures) in
-    omega (arith, pre .2 used)
+    rw (o .owner .ensures) (p .before .before .before .before .pre .2 used)
 
 add-tally : tie.Need-add-tally
 add-tally c =
     let o = c .before .before in
     omega (arith, o .before .before .before .before .before .pre .3 (o .owner .result .0))
-
-slice-write-tally : tie.Need-slice-write-tally
-slice-write-tally c =
-    let o = c .before .before in
-    let p = o .before in
-    let pre = p .before .before .before .before .pre in
-    let used = sym (p .before .is-used .ensures) ∙ p .if1 .taken in
-    let its = ap (λ (x : User). x .0) (o .owner .ensures) in
-    omega (arith, pre .2 used)
 
 returns : tie.Need-returns
 returns c =
@@ -50,10 +41,10 @@ tally-header-spec =
     (λ c κs. search needs)
     (λ c. search needs)
     (λ c. search needs)
-    slice-read-t
+    (λ c. omega (arith, place c, c .before .before .before .before .before .before .before .pre .1))
     add-tally
     (λ c. search needs)
-    slice-write-tally
+    (λ c. omega (arith, place c, c .before .before .before .before .before .before .before .pre .1))
     (λ c. search needs)
     returns
     returns-2)
