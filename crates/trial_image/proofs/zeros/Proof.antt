@@ -1,0 +1,18 @@
+-- `trial_image::zeros` gives an array of its type's length. The law is stated for every length, so that no list of this one is made.
+use Prim.Native.Nat.{ℕ}
+use mathlib.Core.Path.{_≡_, sym}
+use lib.ListN.{length, replicate, length-replicate}
+use Rattle.trial_image.proofs.zeros.Statement.{statement}
+use Rattle.trial_image.proofs.zeros.Tie as tie
+
+sized : (n : ℕ) → n ≡ length {A = ℕ} (replicate n 0)
+sized n = sym (length-replicate n 0)
+
+returns : tie.Need-returns
+returns c = sized 2365440
+
+pub zeros-spec : {M : Type 1} → statement M
+zeros-spec =
+    tie.close
+    (tie.spec
+    returns)
