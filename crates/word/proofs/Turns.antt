@@ -1,4 +1,4 @@
--- One turn and the end of each loop over bytes: of the loop that reads a number, of the three that write, and of the zero test.
+-- A number from its bytes in a row; one turn and the end of each loop over bytes: of the three that write, and of the zero test.
 -- Assumes nothing.
 use Prim.Native.Nat.{ℕ, zero, suc, _+_, _*_, _-_, _/_, _%_, _≤_, _<_}
 use mathlib.Core.Path.{_≡_, refl, _∙_}
@@ -32,14 +32,26 @@ part-left l at k i h f =
     let g : at + (i + 1) ≡ at + i + 1 = omega arith in
     rw (e, g, part-turn l (at + i) (k - (i + 1)) (omega arith))
 
--- one byte more, downwards
-pub word-turn : (l : List ℕ) (at k j : ℕ) → 0 < j → j ≤ k → at + k ≤ length l
-    → getD l (at + (j - 1)) 0 + 256 * wordAt (k - j) l (at + j) ≡ wordAt (k - (j - 1)) l (at + (j - 1))
+-- a number, from its byte i on
+pub word-turn : (l : List ℕ) (at i k : ℕ) → at + i < length l → wordAt (suc k) l (at + i) ≡ getD l (at + i) 0 + 256 * wordAt k l (at + (i + 1))
 unfolding le
-word-turn l at k j p q h =
-    let e : k - (j - 1) ≡ suc (k - j) = omega arith in
-    let f : at + j ≡ at + (j - 1) + 1 = omega arith in
-    rw (e, f, part-turn l (at + (j - 1)) (k - j) (omega arith))
+word-turn l at i k h =
+    let e : at + (i + 1) ≡ at + i + 1 = omega arith in
+    rw (e, part-turn l (at + i) k h)
+
+pub word-first : (l : List ℕ) (at k : ℕ) → at < length l → wordAt (suc k) l at ≡ getD l at 0 + 256 * wordAt k l (at + 1)
+unfolding le
+word-first l at k h = rw (part-turn l at k h)
+
+-- four bytes in a row, and eight as twice four
+pub word-four : (l : List ℕ) (at : ℕ) → at + 4 ≤ length l
+    → getD l at 0 + 256 * getD l (at + 1) 0 + 65536 * getD l (at + 2) 0 + 16777216 * getD l (at + 3) 0 ≡ wordAt 4 l at
+word-four l at h =
+    omega (arith, word-first l at 3 (omega arith), word-turn l at 1 2 (omega arith), word-turn l at 2 1 (omega arith), word-one l (at + 3) (omega arith))
+
+pub word-eight : (l : List ℕ) (at : ℕ) → at + 8 ≤ length l → wordAt 4 l at + 4294967296 * wordAt 4 l (at + 4) ≡ wordAt 8 l at
+word-eight l at h =
+    omega (arith, word-four l at (omega arith), word-first l at 7 (omega arith), word-turn l at 1 6 (omega arith), word-turn l at 2 5 (omega arith), word-turn l at 3 4 (omega arith))
 
 -- ---- a loop that stores: what is left to be stored, stored into what there is, gives what is to be
 

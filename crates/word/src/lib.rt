@@ -5,19 +5,23 @@ ghost use lib.ListN.{length, replicate};
 ghost use Rattle.word.specs.Word.{part, wordAt, bytesOf, blank, allZero};
 ghost use Rattle.word.specs.Write.{over};
 
-// The number that k bytes from a place spell: the one body of the reads.
-fn read(s: &[u8], at: usize, k: usize) -> u64
-    requires { ⌜ (k ≤ 8) × (at + k ≤ length (now s)) ⌝ }
-    ensures { λ r. ⌜ r ≡ wordAt k (now (s .entry)) at ⌝ }
+// A byte as a number, and its bound.
+fn wide(x: u8) -> u64
+    ensures { λ r. ⌜ (r ≡ x) × (r < 256) ⌝ }
 {
-    let mut acc: u64 = 0;
-    let mut j = k;
-    while 0 < j {
-        j -= 1;
-        let b = s[at + j] as u64;
-        acc = b + 256 * acc;
-    }
-    acc
+    x as u64
+}
+
+// The number that 4 bytes from a place spell: the one body of the reads. A sum in a row, with no loop, becomes one load.
+fn four(s: &[u8], at: usize) -> u64
+    requires { ⌜ at + 4 ≤ length (now s) ⌝ }
+    ensures { λ r. ⌜ (r ≡ wordAt 4 (now (s .entry)) at) × (r < 4294967296) ⌝ }
+{
+    let b0 = wide(s[at]);
+    let b1 = wide(s[at + 1]);
+    let b2 = wide(s[at + 2]);
+    let b3 = wide(s[at + 3]);
+    b0 + 256 * b1 + 65536 * b2 + 16777216 * b3
 }
 
 pub fn get8(s: &[u8], at: usize) -> u8
@@ -31,14 +35,14 @@ pub fn get32(s: &[u8], at: usize) -> u32
     requires { ⌜ at + 4 ≤ length (now s) ⌝ }
     ensures { λ r. ⌜ r ≡ wordAt 4 (now (s .entry)) at ⌝ }
 {
-    read(s, at, 4) as u32
+    four(s, at) as u32
 }
 
 pub fn get64(s: &[u8], at: usize) -> u64
     requires { ⌜ at + 8 ≤ length (now s) ⌝ }
     ensures { λ r. ⌜ r ≡ wordAt 8 (now (s .entry)) at ⌝ }
 {
-    read(s, at, 8)
+    four(s, at) + 4294967296 * four(s, at + 4)
 }
 
 // The k low bytes of a number to a place: the one body of the writes.
