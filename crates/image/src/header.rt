@@ -60,8 +60,8 @@ fn shape_right(h: &[u8]) -> bool
     both(
         is_used(h),
         both(
-            word::is_zero(h, 2, 6),
-            both(word::is_zero(h, 48, 16), both(word::get8(h, 1) <= 63, true)),
+            word::is_zero6(h, 2),
+            both(word::is_zero16(h, 48), both(word::get8(h, 1) <= 63, true)),
         ),
     )
 }

@@ -5,19 +5,23 @@ ghost use lib.ListN.{length, replicate};
 ghost use Rattle.word.specs.Word.{part, wordAt, bytesOf, blank, allZero};
 ghost use Rattle.word.specs.Write.{over};
 
-// The number that k bytes from a place spell: the one body of the reads.
-fn read(s: &[u8], at: usize, k: usize) -> u64
-    requires { ⌜ (k ≤ 8) × (at + k ≤ length (now s)) ⌝ }
-    ensures { λ r. ⌜ r ≡ wordAt k (now (s .entry)) at ⌝ }
+// A byte as a number, and its bound.
+fn wide(x: u8) -> u64
+    ensures { λ r. ⌜ (r ≡ x) × (r < 256) ⌝ }
 {
-    let mut acc: u64 = 0;
-    let mut j = k;
-    while 0 < j {
-        j -= 1;
-        let b = s[at + j] as u64;
-        acc = b + 256 * acc;
-    }
-    acc
+    x as u64
+}
+
+// The number that 4 bytes from a place spell: the one body of the reads. A sum in a row, with no loop, becomes one load.
+fn four(s: &[u8], at: usize) -> u64
+    requires { ⌜ at + 4 ≤ length (now s) ⌝ }
+    ensures { λ r. ⌜ (r ≡ wordAt 4 (now (s .entry)) at) × (r < 4294967296) ⌝ }
+{
+    let b0 = wide(s[at]);
+    let b1 = wide(s[at + 1]);
+    let b2 = wide(s[at + 2]);
+    let b3 = wide(s[at + 3]);
+    b0 + 256 * b1 + 65536 * b2 + 16777216 * b3
 }
 
 pub fn get8(s: &[u8], at: usize) -> u8
@@ -31,14 +35,14 @@ pub fn get32(s: &[u8], at: usize) -> u32
     requires { ⌜ at + 4 ≤ length (now s) ⌝ }
     ensures { λ r. ⌜ r ≡ wordAt 4 (now (s .entry)) at ⌝ }
 {
-    read(s, at, 4) as u32
+    four(s, at) as u32
 }
 
 pub fn get64(s: &[u8], at: usize) -> u64
     requires { ⌜ at + 8 ≤ length (now s) ⌝ }
     ensures { λ r. ⌜ r ≡ wordAt 8 (now (s .entry)) at ⌝ }
 {
-    read(s, at, 8)
+    four(s, at) + 4294967296 * four(s, at + 4)
 }
 
 // The k low bytes of a number to a place: the one body of the writes.
@@ -144,6 +148,28 @@ pub fn paste(s: &mut [u8], at: usize, src: &[u8])
         i += 512;
     }
     paste_bytes(s, at + i, &src[i..])
+}
+
+// Whether 6 bytes from a place are all zero: by the number that they spell, which takes fewer steps than a run of bytes.
+pub fn is_zero6(s: &[u8], at: usize) -> bool
+    requires { ⌜ at + 6 ≤ length (now s) ⌝ }
+    ensures { λ r. ⌜ r ≡ allZero (part (now (s .entry)) at 6) ⌝ }
+{
+    let low = four(s, at);
+    let b4 = wide(s[at + 4]);
+    let b5 = wide(s[at + 5]);
+    low + 4294967296 * b4 + 1099511627776 * b5 == 0
+}
+
+// Whether 16 bytes from a place are all zero: by the two numbers that they spell.
+pub fn is_zero16(s: &[u8], at: usize) -> bool
+    requires { ⌜ at + 16 ≤ length (now s) ⌝ }
+    ensures { λ r. ⌜ r ≡ allZero (part (now (s .entry)) at 16) ⌝ }
+{
+    if 0 < get64(s, at) {
+        return false;
+    }
+    get64(s, at + 8) == 0
 }
 
 // Whether the k bytes from a place are all zero. All are looked at: a loop that stops early does not vectorize.
