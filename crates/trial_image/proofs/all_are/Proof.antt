@@ -3,7 +3,6 @@ use Prim.Native.Nat.{_-_}
 use lib.ListN.{length}
 use native.Mathlib.Omega.{arith}
 use borrow.Author.Needs.{needs}
-use denote.Ref.{now}
 use Rattle.trial_image.proofs.all_are.Statement.{statement}
 use Rattle.trial_image.proofs.all_are.Tie as tie
 
