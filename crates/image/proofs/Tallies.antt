@@ -1,48 +1,26 @@
 -- The tally of owners that Check keeps: what one header adds to it, and what it is after all headers.
 -- Assumes nothing.
 use Prim.Native.Nat.{ℕ, _+_, _-_, _*_, _≤_, _<_}
-use mathlib.Core.Path.{_≡_, refl, sym, ap, _∙_}
-use mathlib.Core.Bool.{Bool, true, false, not, cond, _&&_, _||_, true≢false}
-use mathlib.Core.List.{List, [], _∷_, map, map-append}
+use mathlib.Core.Path.{_≡_, refl, ap, _∙_}
+use mathlib.Core.Bool.{Bool, true, false, cond}
+use mathlib.Core.List.{List, map, map-append}
 use native.Mathlib.Decide.{ℕ-discrete}
 use native.Mathlib.Omega.{arith}
-use borrow.Author.Tests.{eqb-true, leb-true, eq-eqb, ne-eqb}
+use borrow.Author.Tests.{eq-eqb, ne-eqb}
 use lib.Dec.{eqb}
 use lib.ListN.{length, take, drop, getD, set, length-set}
 use lib.Seq.{getD-set-same, getD-set-other}
-use Rattle.plain.specs.Tests.{when, both, nth}
-use Rattle.word.specs.Word.{part, le, allZero}
+use Rattle.plain.specs.Tests.{when}
 use Rattle.word.specs.Laws.{length-part}
 use Rattle.word.proofs.Lent.{lent-part}
 use Rattle.run.specs.Run.{just, picked, times}
 use Rattle.run.specs.Laws.{just-yes, just-no, times-append}
 use Rattle.run.proofs.Turns.{picked-turn, picked-end}
-use Rattle.promise.specs.Header.{headerOf, isUsed, ownerOf, usedRight, goodHeader}
+use Rattle.promise.specs.Header.{headerOf, isUsed, ownerOf}
+use Rattle.promise.specs.HeaderLaws.{client}
 use Rattle.promise.specs.Map.{good}
 use Rattle.promise.specs.Counts.{owners}
 use Rattle.image.specs.Image.{tallied}
-
--- ---- the owner of a good header that is used is a client
-
-zero-unused : (h : List ℕ) → allZero h ≡ true → isUsed h ≡ false
-unfolding allZero part le
-zero-unused [] e = refl
-zero-unused (x ∷ h) e =
-    let z = eqb-true x 0 (both (eqb x 0) (allZero h) e .0) in
-    ne-eqb (x + 256 * 0) 1 (λ q. omega arith)
-
-owner-below : (clock b : ℕ) (f : Bool) (h : List ℕ) → goodHeader clock b f h ≡ true → isUsed h ≡ true → ownerOf h < 64
-unfolding goodHeader usedRight
-owner-below clock b f h e u = go (allZero h) refl (usedRight clock b h) refl f e
-  where
-    go : (z : Bool) → allZero h ≡ z → (r : Bool) → usedRight clock b h ≡ r → (f : Bool) → ((z && f) || (r && not f)) ≡ true → ownerOf h < 64
-    go true p r q f e = absurd (true≢false (sym u ∙ zero-unused h p))
-    go false p true q f e = omega (arith, leb-true (ownerOf h) 63 (nth _ 3 q))
-    go false p false q f e = absurd (true≢false (sym e))
-
-pub client : (img : List ℕ) (b : ℕ) → good img b ≡ true → isUsed (headerOf img b) ≡ true → ownerOf (headerOf img b) < 64
-unfolding good
-client img b e u = owner-below _ _ _ (headerOf img b) e u
 
 -- ---- a header, lent from the image
 

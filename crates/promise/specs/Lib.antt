@@ -21,8 +21,10 @@ pub mod Profile
 pub mod Walk
 pub mod Call
 pub mod TrailerLaws
+pub mod HeaderLaws
 pub mod RefusalLaws
 pub mod KeyLaws
 pub mod CallLaws
 pub mod Laws
 pub mod FreshLaws
+pub mod ScavengeLaws

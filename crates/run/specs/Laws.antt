@@ -10,8 +10,8 @@ use native.Mathlib.Nat.{not-suc-le-zero, eq-or-lt-of-le}
 use native.Mathlib.Omega.{arith}
 use borrow.Author.Tests.{eq-eqb, ne-eqb}
 use lib.ListN.{length, length-append}
-use Rattle.plain.specs.Tests.{both}
-use Rattle.run.specs.Run.{one, just, picked, allOf, first, visits, times}
+use Rattle.plain.specs.Tests.{both, decide}
+use Rattle.run.specs.Run.{one, just, picked, allOf, first, visits, each, Every, times}
 
 pub times-append : (x : ℕ) (bs cs : List ℕ) → times x (bs ++ cs) ≡ times x bs + times x cs
 unfolding times
@@ -238,3 +238,35 @@ module _ (p : ℕ → Bool) where
   unfolding allOf
   each-all b zero h = refl
   each-all b (suc k) h = rw (h b (omega arith) (omega arith), each-all (b + 1) k (λ x l u. h x (omega arith) (omega arith)))
+
+  -- ---- what holds of each number that passes holds of each that is picked
+
+  every-append : (P : ℕ → Type 0) (xs ys : List ℕ) → Every P xs → Every P ys → Every P (xs ++ ys)
+  every-append P [] ys a b = b
+  every-append P (x ∷ xs) ys a b = (a .0, every-append P xs ys (a .1) b)
+
+  pub every-picked : (P : ℕ → Type 0) (b k : ℕ) → ((x : ℕ) → b ≤ x → x < b + k → p x ≡ true → P x) → Every P (picked p b k)
+  unfolding picked
+  every-picked P b zero h = tt
+  every-picked P b (suc k) h =
+      every-append P (just p b) (picked p (b + 1) k)
+      (⊎-elim (λ (e : p b ≡ true). rw (just-yes b e) (h b (omega arith) (omega arith) e, tt)) (λ (e : p b ≡ false). rw (just-no b e) tt) (decide (p b)))
+      (every-picked P (b + 1) k (λ x l u. h x (omega arith) (omega arith)))
+
+-- ---- two changes at each number of a list: all of the one and then all of the other, where they swap, are both at each number in turn
+
+module _ {S : Type 0} (Q : S → Type 0) (P : ℕ → Type 0) (f g : S → ℕ → S)
+    (keeps : (s : S) (b : ℕ) → Q s → P b → Q (f s b))
+    (keeps′ : (s : S) (b : ℕ) → Q s → P b → Q (g s b))
+    (swap : (s : S) (b c : ℕ) → Q s → P b → P c → g (f s c) b ≡ f (g s b) c) where
+  across : (s : S) (b : ℕ) (cs : List ℕ) → Q s → P b → Every P cs → g (each f s cs) b ≡ each f (g s b) cs
+  unfolding each
+  across s b [] q p e = refl
+  across s b (c ∷ cs) q p e = across (f s c) b cs (keeps s c q (e .0)) p (e .1) ∙ ap (λ r. each f r cs) (swap s b c q p (e .0))
+
+  pub each-both : (s : S) (bs : List ℕ) → Q s → Every P bs → each g (each f s bs) bs ≡ each (λ s b. g (f s b) b) s bs
+  unfolding each
+  each-both s [] q e = refl
+  each-both s (b ∷ bs) q e =
+      ap (λ r. each g r bs) (across (f s b) b bs (keeps s b q (e .0)) (e .0) (e .1))
+      ∙ each-both (g (f s b) b) bs (keeps′ (f s b) b (keeps s b q (e .0)) (e .0)) (e .1)

@@ -43,6 +43,11 @@ module _ {S : Type 0} where
   each f s [] = s
   each f s (b ∷ bs) = each f (f s b) bs
 
+-- P holds of each number of a list
+abbrev pub Every : (ℕ → Type 0) → List ℕ → Type 0
+Every P [] = Unit {0}
+Every P (b ∷ bs) = P b × Every P bs
+
 -- how often a number stands in a list
 unfoldable pub times : ℕ → List ℕ → ℕ
 times x [] = 0

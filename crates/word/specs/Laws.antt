@@ -4,7 +4,7 @@
 use Prim.Native.Nat.{ℕ, zero, suc, _+_, _*_, _-_, _/_, _%_, _^_, _≤_, _<_, min}
 use mathlib.Core.Path.{_≡_, refl, sym, ap, ap₂, _∙_}
 use mathlib.Core.Bool.{true}
-use mathlib.Core.Logic.{⊎-elim}
+use mathlib.Core.Logic.{_⊎_, inl, inr, ⊎-elim}
 use mathlib.Core.List.{List, [], _∷_, _++_, append-assoc, append-nil}
 use native.Mathlib.Nat.{add-zero, pow-suc, pow-zero, div-lt-iff-lt-mul, le-of-eq, le-trans, pow-le-pow-right}
 use native.Mathlib.Omega.{arith}
@@ -156,6 +156,50 @@ over-append l at xs ys h =
     ∙ drop-append-add (take at l ++ xs) (drop (at + length xs) l) (length ys)
     ∙ drop-drop (length ys) (at + length xs) l)
     ∙ ap (λ r. r ++ drop (at + length xs + length ys) l) (append-assoc (take at l) xs ys))
+
+-- two writes to places that have nothing in common, in either order
+
+written : (l : List ℕ) (at : ℕ) (vs : List ℕ) → at + length vs ≤ length l → (x : ℕ) → at ≤ x → x < at + length vs → getD (over l at vs) x 0 ≡ getD vs (x - at) 0
+written l at vs h x p q =
+    let e : at + (x - at) ≡ x = omega arith in
+    sym
+    (ap (λ r. getD r (x - at) 0) (sym (same l at vs h)) ∙ getD-part (over l at vs) at (length vs) (x - at) (omega arith)
+    ∙ ap (λ (y : ℕ). getD (over l at vs) y 0) e)
+
+pub over-swap : (l : List ℕ) (a : ℕ) (xs : List ℕ) (b : ℕ) (ys : List ℕ) → a + length xs ≤ length l → b + length ys ≤ length l
+    → Apart a (length xs) b (length ys) → over (over l a xs) b ys ≡ over (over l b ys) a xs
+over-swap l a xs b ys ha hb d =
+    let m = length-over l a xs ha in
+    let n = length-over l b ys hb in
+    let f = length-over (over l a xs) b ys (omega arith) in
+    let g = length-over (over l b ys) a xs (omega arith) in
+    ext-getD 0 (over (over l a xs) b ys) (over (over l b ys) a xs) (f ∙ m ∙ sym (g ∙ n)) (λ x p. at-each x (lt-or-le x a) (lt-or-le x (a + length xs)) (lt-or-le x b) (lt-or-le x (b + length ys)))
+  where
+    m′ : b + length ys ≤ length (over l a xs)
+    m′ = omega (arith, length-over l a xs ha)
+
+    n′ : a + length xs ≤ length (over l b ys)
+    n′ = omega (arith, length-over l b ys hb)
+
+    -- a place of neither, of the first and of the second
+    neither : (x : ℕ) → (a ≤ x → x < a + length xs → ⊥) → (b ≤ x → x < b + length ys → ⊥) → getD (over (over l a xs) b ys) x 0 ≡ getD (over (over l b ys) a xs) x 0
+    neither x p q = kept (over l a xs) b ys m′ x q ∙ kept l a xs ha x p ∙ sym (kept (over l b ys) a xs n′ x p ∙ kept l b ys hb x q)
+
+    first : (x : ℕ) → a ≤ x → x < a + length xs → getD (over (over l a xs) b ys) x 0 ≡ getD (over (over l b ys) a xs) x 0
+    first x p q = kept (over l a xs) b ys m′ x (d x p q) ∙ written l a xs ha x p q ∙ sym (written (over l b ys) a xs n′ x p q)
+
+    second : (x : ℕ) → b ≤ x → x < b + length ys → getD (over (over l a xs) b ys) x 0 ≡ getD (over (over l b ys) a xs) x 0
+    second x p q = written (over l a xs) b ys m′ x p q ∙ sym (kept (over l b ys) a xs n′ x (λ r t. d x r t p q) ∙ written l b ys hb x p q)
+
+    at-each : (x : ℕ) → (x < a) ⊎ (a ≤ x) → (x < a + length xs) ⊎ (a + length xs ≤ x) → (x < b) ⊎ (b ≤ x) → (x < b + length ys) ⊎ (b + length ys ≤ x)
+        → getD (over (over l a xs) b ys) x 0 ≡ getD (over (over l b ys) a xs) x 0
+    at-each x (inr p) (inl q) r t = first x p q
+    at-each x (inl p) q (inr r) (inl t) = second x r t
+    at-each x (inr p) (inr q) (inr r) (inl t) = second x r t
+    at-each x (inl p) q (inl r) t = neither x (λ u v. omega arith) (λ u v. omega arith)
+    at-each x (inl p) q (inr r) (inr t) = neither x (λ u v. omega arith) (λ u v. omega arith)
+    at-each x (inr p) (inr q) (inl r) t = neither x (λ u v. omega arith) (λ u v. omega arith)
+    at-each x (inr p) (inr q) (inr r) (inr t) = neither x (λ u v. omega arith) (λ u v. omega arith)
 
 -- ---- a list of writes
 

@@ -4,8 +4,9 @@ use mathlib.Core.Path.{refl, sym, ap, _∙_}
 use native.Mathlib.Omega.{arith}
 use borrow.Author.Tests.{not-true, not-false}
 use denote.Ref.{now}
+use Rattle.promise.specs.HeaderLaws.{client}
 use Rattle.image.specs.Image.{tallied}
-use Rattle.image.proofs.Tallies.{client, lent-header, length-header}
+use Rattle.image.proofs.Tallies.{lent-header, length-header}
 use borrow.Author.Needs.{needs}
 use Rattle.image.proofs.sound.visit.Statement.{statement}
 use Rattle.image.proofs.sound.visit.Tie as tie
