@@ -1,4 +1,5 @@
 -- `trial_image::all_are` is safe and ends.
+-- Assumes nothing.
 use Prim.Native.Nat.{_-_}
 use lib.ListN.{length}
 use native.Mathlib.Omega.{arith}

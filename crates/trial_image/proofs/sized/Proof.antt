@@ -1,4 +1,5 @@
 -- `trial_image::sized` is safe: the part that is lent has the length that was asked for.
+-- Assumes nothing.
 use lib.ListN.{length-take}
 use native.Mathlib.Omega.{arith}
 use borrow.Author.Needs.{needs}

@@ -1,4 +1,5 @@
 -- `zolvortug::zolvortug_format` meets its contract: Format's promise, with the report's number.
+-- Assumes nothing.
 use mathlib.Core.Path.{_∙_, ap}
 use borrow.Author.Needs.{needs}
 use Rattle.kinds.specs.Report.{numberOf}
