@@ -11,7 +11,6 @@ use lib.Dec.{eqb}
 use lib.ListN.{length, take, drop}
 use Rattle.plain.specs.Tests.{all, all-append, decide}
 use Rattle.word.specs.Word.{wordAt}
-use Rattle.word.specs.Laws.{length-part}
 use Rattle.word.proofs.Lent.{lent-part}
 use Rattle.kinds.specs.Kinds.{tick}
 use Rattle.promise.specs.Layout.{numberRight, sizeOf}
@@ -52,9 +51,6 @@ answer-short img h = rw (short img h)
 module _ (img t : List ℕ) (h : 512 ≤ length img) (e : t ≡ take (length img - (length img - 512)) (drop (length img - 512) img)) where
   is-trailer : t ≡ trailerOf img
   is-trailer = e ∙ lent-part img (length img - 512) (length img) 512 (omega arith)
-
-  pub lent-size : length t ≡ 512
-  lent-size = ap length is-trailer ∙ length-part img (length img - 512) 512 (omega arith)
 
   pub answer-bad : rightTrailer (length img) t ≡ false → Bad ≡ trailerAnswer img
   unfolding trailerAnswer trailerRight

@@ -2,7 +2,7 @@
 -- Assumes nothing.
 use Prim.Native.Nat.{ℕ, suc, _≤_, _<_}
 use mathlib.Core.Path.{_≡_, refl, sym, _∙_, ap}
-use mathlib.Core.Bool.{Bool, true, false, not, _&&_, true≢false}
+use mathlib.Core.Bool.{Bool, true, false, not, _&&_, and-false, true≢false}
 use mathlib.Core.List.{List, []}
 use mathlib.Core.Logic.{_⊎_, _≢_, inl, inr, ⊎-elim}
 use native.Mathlib.Omega.{arith}
@@ -20,7 +20,7 @@ use Rattle.manual.specs.Reports.{Failed}
 use Rattle.manual.specs.Client.{Create-success, Destroy-success, Replace-success, SetExpiry-success}
 use Rattle.manual.specs.Manager.{Scavenge-success}
 use Rattle.manual.specs.Kept.{Keeps, Kept, NewIdsRead, Dated}
-use Rattle.manual.proofs.Maps.{out-of, and-false, either, or-left, or-right, dom-put, dom-cut, such-cut, such-same}
+use Rattle.manual.proofs.Maps.{out-of, either, or-left, or-right, dom-put, dom-cut, such-cut, such-same}
 use Rattle.manual.proofs.Sizes.{resized, added, fewer, taken}
 
 abbrev stored : Block → Bool

@@ -2,9 +2,9 @@
 -- Assumes nothing.
 use Prim.Native.Nat.{ℕ}
 use mathlib.Core.Path.{_≡_, refl, sym, _∙_, ap}
-use mathlib.Core.Bool.{Bool, true, false, not, cond, _&&_, _||_}
+use mathlib.Core.Bool.{Bool, true, false, not, cond, _&&_, _||_, and-true, and-false}
 use mathlib.Core.Logic.{_⊎_, inl, inr}
-use mathlib.Core.Option.{Option, none, some}
+use mathlib.Core.Option.{none, some}
 use lib.Dec.{eqb}
 use Rattle.plain.specs.Tests.{both}
 use Rattle.manual.specs.Sets.{Set, only, _∪_, _∖_, _⊆_, _≈_}
@@ -26,14 +26,6 @@ pub or-right : (s t : Bool) → t ≡ true → s || t ≡ true
 or-right true t e = refl
 or-right false t e = e
 
-pub and-false : (t : Bool) → t && false ≡ false
-and-false true = refl
-and-false false = refl
-
-pub and-true : (t : Bool) → t && true ≡ t
-and-true true = refl
-and-true false = refl
-
 -- dom (m ⊕ {i ↦ b}) = {i} ∪ dom m
 pub dom-put : (m : Blocks) (i : ℕ) (b : Block) → dom (put m i b) ≈ only i ∪ dom m
 dom-put m i b x = go (eqb x i)
@@ -52,14 +44,6 @@ such-cut t X m x = go (X x)
 
 pub dom-cut : (X : Set) (m : Blocks) → dom (X ⩤ m) ⊆ dom m
 dom-cut X m x h = both (dom m x) (not (X x)) (sym (such-cut (λ b. true) X m x) ∙ h) .0
-
--- what passes a test is stored
-pub such-dom : (t : Block → Bool) (m : Blocks) → such t m ⊆ dom m
-such-dom t m x = go (m x)
-  where
-    go : (o : Option Block) → meets t o ≡ true → meets (λ b. true) o ≡ true
-    go none h = h
-    go (some b) h = refl
 
 -- equal maps have equal sets
 pub such-same : (t : Block → Bool) {m n : Blocks} → m ≈ n → such t m ≈ such t n

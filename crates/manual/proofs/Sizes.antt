@@ -2,7 +2,7 @@
 -- Assumes nothing.
 use Prim.Native.Nat.{ℕ, suc, _+_, _≤_, _<_}
 use mathlib.Core.Path.{_≡_, refl, sym, _∙_, ap}
-use mathlib.Core.Bool.{Bool, true, false, cond, not, _&&_, _||_, true≢false}
+use mathlib.Core.Bool.{Bool, true, false, cond, not, _&&_, _||_, and-true, true≢false}
 use mathlib.Core.List.{List, [], _∷_, _++_}
 use mathlib.Core.Logic.{⊎-elim}
 use native.Mathlib.Omega.{arith}
@@ -13,7 +13,6 @@ use Rattle.plain.specs.Tests.{decide, both}
 use Rattle.run.specs.Run.{one, just, times}
 use Rattle.run.specs.Laws.{one-yes, one-no, one-le, just-yes, just-no, length-just, times-append}
 use Rattle.manual.specs.Sets.{Set, _∈_, _∉_, only, _∪_, _∖_, _⊆_, _≈_, Lists, HasSize, OneSize}
-use Rattle.manual.proofs.Maps.{and-true}
 
 -- ---- one size
 
