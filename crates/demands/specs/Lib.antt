@@ -1,2 +1,11 @@
+pub mod Stored
+pub mod Service
 pub mod Demand1
 pub mod Settled
+pub mod Demand2
+pub mod Demand3
+pub mod Contracts
+pub mod Example
+pub mod ByRecord
+pub mod WrongStores
+pub mod Determined

@@ -14,7 +14,7 @@ use Rattle.kinds.specs.Laws.{injective}
 use Rattle.tariff.specs.declared.Tariff.{Tariff}
 use Rattle.promise.specs.Header.{headerOf}
 use Rattle.promise.specs.Sound.{soundImage}
-use Rattle.promise.specs.Laws.{sound}
+use Rattle.promise.proofs.Laws.{sound}
 use Rattle.promise.specs.Call.{Outcome, outcome}
 use Rattle.fourteen.specs.Line.{Line, fieldsOf, Agrees, AsListed}
 

@@ -1,4 +1,5 @@
--- A line of the table: a call, and what it must answer and leave; and what it means that calls in sequence go as listed.
+-- A line of the table: a call, and what it must answer and leave; and what it means that calls in sequence go as
+-- listed.
 use Prim.Native.Nat.{ℕ}
 use mathlib.Core.Path.{_≡_}
 use mathlib.Core.List.{List, [], _∷_}
@@ -24,8 +25,8 @@ pub record Line : Type 0 where
   pub block : ℕ
   pub fields : List ℕ
 
--- a call's outcome is the line's: report, charge, results, key and buffer; the header of the line's block has these fields; and the
--- image after the call is sound
+-- a call's outcome is the line's: report, charge, results, key and buffer; the header of the line's block has these
+-- fields; and the image after the call is sound
 pub record Agrees (l : Line) (o : Outcome) : Type 0 where
   pub report : o .report ≡ l .report
   pub charge : o .charge ≡ l .charge

@@ -49,11 +49,29 @@ room = replicate 8 255
 -- a call that gives no key and is lent no buffer to write; a key call; what it leaves in the header of a block
 abbrev plainly : Call → Report → ℤ → List ℕ → (block : ℕ) → List ℕ → Line
 plainly call report charge results block fields =
-    record { call = call; report = report; charge = charge; results = results; key = none; buffer = []; block = block; fields = fields }
+    record {
+      call = call;
+      report = report;
+      charge = charge;
+      results = results;
+      key = none;
+      buffer = [];
+      block = block;
+      fields = fields;
+    }
 
 abbrev keyed : Call → Report → ℤ → List ℕ → (key : ℕ) → List ℕ → (block : ℕ) → List ℕ → Line
 keyed call report charge results key buffer block fields =
-    record { call = call; report = report; charge = charge; results = results; key = some key; buffer = buffer; block = block; fields = fields }
+    record {
+      call = call;
+      report = report;
+      charge = charge;
+      results = results;
+      key = some key;
+      buffer = buffer;
+      block = block;
+      fields = fields;
+    }
 
 abbrev unused : List ℕ
 unused = 0 ∷ 0 ∷ 0 ∷ 0 ∷ 0 ∷ []
@@ -66,7 +84,16 @@ fourteenCalls =
     ∷ plainly (Call.SetExpiry 5 id0 300 102) NotOwner (pos 1) [] 0 (1 ∷ 3 ∷ id0 ∷ 100 ∷ 500 ∷ [])
     ∷ plainly (Call.SetExpiry 3 id0 300 103) Success (negsuc 389) [] 0 (1 ∷ 3 ∷ id0 ∷ 100 ∷ 300 ∷ [])
     ∷ plainly (Call.Replace 5 id1 bytes 110) Success (pos 10) (id1′ ∷ []) 1 (1 ∷ 5 ∷ id1′ ∷ 110 ∷ 101 ∷ [])
-    ∷ record { call = Call.Read 5 id1 bytes; report = NoSuchBlock; charge = pos 1; results = []; key = none; buffer = bytes; block = 1; fields = 1 ∷ 5 ∷ id1′ ∷ 110 ∷ 101 ∷ [] }
+    ∷ record {
+      call = Call.Read 5 id1 bytes;
+      report = NoSuchBlock;
+      charge = pos 1;
+      results = [];
+      key = none;
+      buffer = bytes;
+      block = 1;
+      fields = 1 ∷ 5 ∷ id1′ ∷ 110 ∷ 101 ∷ [];
+    }
     ∷ keyed (Call.GetIds 3 0 1 room) Success (pos 10) (1 ∷ []) 1 (bytesOf 8 id0) 0 (1 ∷ 3 ∷ id0 ∷ 100 ∷ 300 ∷ [])
     ∷ keyed (Call.GetIds 3 1 1 room) Success (pos 10) (0 ∷ []) endKey room 0 (1 ∷ 3 ∷ id0 ∷ 100 ∷ 300 ∷ [])
     ∷ keyed (Call.Scavenge 3 0 200) NotManager (pos 1) (0 ∷ []) 0 [] 1 (1 ∷ 5 ∷ id1′ ∷ 110 ∷ 101 ∷ [])

@@ -9,11 +9,13 @@ use lib.Seq.{drop-cons}
 use Rattle.ident.specs.Ident.{roundOf, unroundOf, rounds, unrounds}
 
 -- the constant at i, and then those after it
-pub up : (ks : List ℕ) (i x : ℕ) → i < length ks → rounds (drop (i + 1) ks) (roundOf (getD ks i 0) x) ≡ rounds (drop i ks) x
+pub up : (ks : List ℕ) (i x : ℕ) → i < length ks
+    → rounds (drop (i + 1) ks) (roundOf (getD ks i 0) x) ≡ rounds (drop i ks) x
 unfolding rounds
 up ks i x h = rw (add-one, drop-cons ks i 0 h)
 
 -- those after i, and then the constant at i
-pub down : (ks : List ℕ) (i y : ℕ) → i < length ks → unroundOf (getD ks i 0) (unrounds (drop (i + 1) ks) y) ≡ unrounds (drop i ks) y
+pub down : (ks : List ℕ) (i y : ℕ) → i < length ks
+    → unroundOf (getD ks i 0) (unrounds (drop (i + 1) ks) y) ≡ unrounds (drop i ks) y
 unfolding unrounds
 down ks i y h = rw (add-one, drop-cons ks i 0 h)

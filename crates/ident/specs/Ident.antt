@@ -1,8 +1,10 @@
--- Document 01, Identifiers: p from a time and a block number, the four rounds that disguise it, their undoing, and 'shaped'.
-use mathlib.Core.Bool.{Bool, true, false, _&&_}
+-- Document 01, Identifiers: p from a time and a block number, the four rounds that disguise it, their undoing, and
+-- 'shaped'.
+use mathlib.Core.Bool.{Bool, _&&_}
 use mathlib.Core.List.{List, [], _∷_}
 use Prim.Native.Nat.{ℕ, _+_, _-_, _*_, _/_, _%_, _^_}
 use lib.Dec.{ltb, leb}
+use Rattle.plain.specs.Tests.{when}
 use Rattle.kinds.specs.Kinds.{blockNum}
 use Rattle.ident.specs.declared.Shape.{Shape}
 use Rattle.ident.specs.declared.Shape.the-variants.{Unshaped, Shaped}
@@ -68,9 +70,5 @@ unfoldable pub shapedIn : (n p : ℕ) → Bool
 shapedIn n p = ltb p (2 ^ 52) && leb 1 (timeOf p) && ltb (blockOf p) n
 
 -- the answer, for what an id gives undone: the block number where it is shaped
-abbrev pub shapeWhen : Bool → ℕ → Shape
-shapeWhen true b = Shaped (blockNum b)
-shapeWhen false b = Unshaped
-
 unfoldable pub shapeOf : (p n : ℕ) → Shape
-shapeOf p n = shapeWhen (shapedIn n p) (blockOf p)
+shapeOf p n = when (shapedIn n p) (Shaped (blockNum (blockOf p))) Unshaped

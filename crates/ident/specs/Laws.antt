@@ -1,17 +1,19 @@
--- Laws of the identifiers: each round is undone by its undoing, and so are the rounds of any list of constants; no two ids are alike,
--- none is NullId, and the time and the block number come back out.
+-- Laws of the identifiers: each round is undone by its undoing, and so are the rounds of any list of constants; no two
+-- ids are alike, none is NullId, and the time and the block number come back out.
 -- Assumes nothing.
 use mathlib.Core.Path.{_≡_, refl, sym, _∙_, ap}
-use mathlib.Core.Bool.{true, _&&_}
+use mathlib.Core.Bool.{true, false, _&&_}
 use mathlib.Core.List.{List, [], _∷_}
 use Prim.Native.Nat.{ℕ, _+_, _-_, _*_, _%_, _^_, _≤_, _<_}
 use native.Mathlib.Omega.{arith}
 use borrow.Author.Tests.{lt-ltb, le-leb, ltb-true, leb-true}
 use lib.Dec.{ltb, leb}
-use Rattle.plain.specs.Tests.{both}
+use Rattle.plain.specs.Tests.{both, was-first, was-second, apart}
 use Rattle.kinds.specs.Kinds.{blockNum}
-use Rattle.ident.specs.Ident.{nullId, place, high, low, joined, roundOf, unroundOf, rounds, unrounds, keys, disguised, undone, idOf, timeOf, blockOf, shapedIn, shapeOf}
-use Rattle.ident.specs.declared.Shape.the-variants.{Shaped}
+use Rattle.kinds.specs.declared.BlockNum.{BlockNum}
+use Rattle.ident.specs.Ident.{nullId, place, high, low, joined, roundOf, unroundOf, rounds, unrounds, keys}
+use Rattle.ident.specs.Ident.{disguised, undone, idOf, timeOf, blockOf, shapedIn, shapeOf}
+use Rattle.ident.specs.declared.Shape.the-variants.{Unshaped, Shaped}
 
 -- ---- one round
 
@@ -122,9 +124,14 @@ module _ (time b : ℕ) (ht : time < 2 ^ 40) (hb : b < 4096) where
       rw (undo-id, t, m, lt-ltb (place time b) (2 ^ 52) (omega arith), le-leb 1 time h, lt-ltb b n l)
 
 -- no two times and block numbers have one id
-pub injective : (time b time′ b′ : ℕ) → time < 2 ^ 40 → b < 4096 → time′ < 2 ^ 40 → b′ < 4096 → idOf time b ≡ idOf time′ b′ → (time ≡ time′) × (b ≡ b′)
-injective time b time′ b′ ht hb ht′ hb′ e =
-    (sym (time-back time b ht hb) ∙ ap (λ (x : ℕ). timeOf (undone x)) e ∙ time-back time′ b′ ht′ hb′, sym (block-back time b ht hb) ∙ ap (λ (x : ℕ). blockOf (undone x)) e ∙ block-back time′ b′ ht′ hb′)
+pub injective : (time b time′ b′ : ℕ) → time < 2 ^ 40 → b < 4096 → time′ < 2 ^ 40 → b′ < 4096
+    → idOf time b ≡ idOf time′ b′ → (time ≡ time′) × (b ≡ b′)
+injective time b time′ b′ ht hb ht′ hb′ e = (
+  sym (time-back time b ht hb) ∙ ap (λ (x : ℕ). timeOf (undone x)) e
+      ∙ time-back time′ b′ ht′ hb′,
+  sym (block-back time b ht hb) ∙ ap (λ (x : ℕ). blockOf (undone x)) e
+      ∙ block-back time′ b′ ht′ hb′,
+)
 
 -- a shaped number is the id of its time and its block number: what is shaped was made from what it gives undone
 pub record ShapedAs (n id : ℕ) : Type 0 where
@@ -147,6 +154,24 @@ shaped-made n id h e =
       stored = ltb-true (blockOf p) n (w .1);
       made = sym (rw q (make-undo id h));
     }
+
+pub shaped-below : (n p : ℕ) → shapedIn n p ≡ true → blockOf p < n
+unfolding shapedIn
+shaped-below n p e = ltb-true (blockOf p) n (both (ltb p (2 ^ 52) && leb 1 (timeOf p)) (ltb (blockOf p) n) e .1)
+
+-- what the answer of `shaped` tells
+pub told-unshaped : (n p : ℕ) → shapeOf p n ≡ Unshaped → shapedIn n p ≡ false
+unfolding shapeOf
+told-unshaped n p e = was-second (shapedIn n p) (λ q. apart cc) e .0
+
+pub told-shaped : (n p : ℕ) (b : BlockNum) → shapeOf p n ≡ Shaped b
+    → (b .0 < n) × (blockOf p ≡ b .0) × (shapedIn n p ≡ true)
+unfolding shapeOf
+told-shaped n p b e =
+    let w = was-first (shapedIn n p) (λ q. apart cc) e in
+    let t : blockNum (blockOf p) ≡ b = cc (w .1) in
+    let q = ap (λ (x : BlockNum). x .0) t in
+    (rw (← q) (shaped-below n p (w .0)), q, w .0)
 
 -- the ids of the fourteen calls: of the first call, of the third, and of the sixth, which replaces it
 pub first : idOf 100 0 ≡ 15964205149442916352

@@ -2,18 +2,19 @@
 -- Assumes nothing.
 use Prim.Native.Nat.{ℕ, zero, suc, _<_}
 use mathlib.Core.Path.{_≡_, refl, sym, ap, _∙_}
-use mathlib.Core.Bool.{Bool, true, false, _&&_, and-assoc}
+use mathlib.Core.Bool.{true, false, _&&_, and-assoc}
 use mathlib.Core.List.{List}
 use native.Mathlib.Omega.{arith}
 use lib.Dec.{eqb}
 use lib.ListN.{getD, replicate}
+use Rattle.plain.specs.Tests.{was-first, was-second, apart}
 use Rattle.run.specs.Run.{allOf, times}
 use Rattle.run.specs.Laws.{all-same}
 use Rattle.kinds.specs.Kinds.{tick}
 use Rattle.kinds.specs.declared.Tick.{Tick}
 use Rattle.promise.specs.Layout.{sizeOf}
 use Rattle.promise.specs.Trailer.{nOf, clockOf, trailerRight}
-use Rattle.promise.specs.TrailerLaws.{right}
+use Rattle.promise.proofs.TrailerLaws.{right}
 use Rattle.promise.specs.Map.{spareZero, good}
 use Rattle.promise.specs.Counts.{countOf, owners}
 use Rattle.promise.specs.Sound.{soundImage}
@@ -43,33 +44,31 @@ module _ (img : List ℕ) (n : ℕ) (e : nOf img ≡ n) where
   unfolding bodySound
   by-counts h s tally t =
       rw (e, h, s)
-      (all-same (sameCount n img tally) (λ u. eqb (countOf n img u) (times u (owners n img))) 0 64 (λ u l b. ap (λ (x : ℕ). eqb (countOf n img u) x) (t u (omega arith))))
+      (all-same (sameCount n img tally) (λ u. eqb (countOf n img u) (times u (owners n img))) 0 64
+      (λ u l b. ap (λ (x : ℕ). eqb (countOf n img u) x) (t u (omega arith))))
 
 -- ---- the trailer, and the rest
 
 split : (img : List ℕ) → soundImage img ≡ (trailerRight img && bodySound img)
 unfolding soundImage bodySound countOf
 split img =
-    ap (λ r. r && allOf (λ u. eqb (countOf (nOf img) img u) (times u (owners (nOf img) img))) 0 64) (and-assoc (trailerRight img) (allOf (good img) 0 (nOf img)) (spareZero (nOf img) img))
-    ∙ and-assoc (trailerRight img) (allOf (good img) 0 (nOf img) && spareZero (nOf img) img) (allOf (λ u. eqb (countOf (nOf img) img u) (times u (owners (nOf img) img))) 0 64)
+    ap (λ r. r && allOf (λ u. eqb (countOf (nOf img) img u) (times u (owners (nOf img) img))) 0 64)
+    (and-assoc (trailerRight img) (allOf (good img) 0 (nOf img)) (spareZero (nOf img) img))
+    ∙ and-assoc (trailerRight img) (allOf (good img) 0 (nOf img)
+    && spareZero (nOf img) img) (allOf (λ u. eqb (countOf (nOf img) img u) (times u (owners (nOf img) img))) 0 64)
 
 -- what a reading that answered Bad, or Right, tells
-pub told-bad : (img : List ℕ) → trailerAnswer img ≡ Bad → false ≡ soundImage img
+pub not-right : (img : List ℕ) → trailerAnswer img ≡ Bad → trailerRight img ≡ false
 unfolding trailerAnswer
-told-bad img e = go (trailerRight img) refl
-  where
-    go : (t : Bool) → trailerRight img ≡ t → false ≡ soundImage img
-    go true q = let z : _≡_ {A = ℕ} 0 1 = cc in absurd (omega arith)
-    go false q = sym (split img ∙ rw q)
+not-right img e = was-second (trailerRight img) (λ q. apart cc) e .0
+
+pub told-bad : (img : List ℕ) → trailerAnswer img ≡ Bad → false ≡ soundImage img
+told-bad img e = sym (split img ∙ rw (not-right img e))
 
 module _ (img : List ℕ) (n : ℕ) (clock : Tick) (e : trailerAnswer img ≡ Right n clock) where
-  its-trailer : trailerRight img ≡ true
+  pub its-trailer : trailerRight img ≡ true
   unfolding trailerAnswer
-  its-trailer = go (trailerRight img) refl
-    where
-      go : (t : Bool) → trailerRight img ≡ t → trailerRight img ≡ true
-      go true q = q
-      go false q = let z : _≡_ {A = ℕ} 0 1 = cc in absurd (omega arith)
+  its-trailer = was-first (trailerRight img) (λ q. apart cc) e .0
 
   its : Right (nOf img) (tick (clockOf img)) ≡ Right n clock
   unfolding trailerAnswer
@@ -81,7 +80,16 @@ module _ (img : List ℕ) (n : ℕ) (clock : Tick) (e : trailerAnswer img ≡ Ri
       let p : nOf img ≡ n = cc its in
       let t : tick (clockOf img) ≡ clock = cc its in
       let q : clockOf img ≡ clock .0 = ap (λ (x : Tick). x .0) t in
-      record { laid = record { number = rw p at (r .number); size = r .size ∙ ap sizeOf p }; its-n = p; its-clock = q; in-time = omega (arith, r .clock) }
+      record {
+        laid = record {
+          number = rw p at (r .number);
+          size = r .size
+              ∙ ap sizeOf p;
+        };
+        its-n = p;
+        its-clock = q;
+        in-time = omega (arith, r .clock);
+      }
 
   pub told-body : bodySound img ≡ soundImage img
   told-body = sym (split img ∙ rw its-trailer)

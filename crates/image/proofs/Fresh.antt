@@ -1,4 +1,5 @@
--- How Format's writes make a fresh image: its trailer, from numbers that follow one another and a mark after zeros, and the whole.
+-- How Format's writes make a fresh image: its trailer, from numbers that follow one another and a mark after zeros, and
+-- the whole.
 -- Assumes nothing.
 use Prim.Native.Nat.{ℕ, _+_, _/_, _≤_}
 use mathlib.Core.Path.{_≡_, refl, sym, ap, _∙_}
@@ -9,18 +10,20 @@ use borrow.Author.Tests.{eq-eqb}
 use lib.ListN.{length, replicate}
 use Rattle.word.specs.Word.{part, bytesOf, blank}
 use Rattle.word.specs.Write.{over, puts}
-use Rattle.word.specs.Laws.{sizes, length-bytesOf, length-over, length-blank, frame, part-part, part-blank, over-same, over-whole}
+use Rattle.word.specs.Laws.{sizes, length-bytesOf, length-over, length-blank, frame, part-part, part-blank, over-same}
+use Rattle.word.specs.Laws.{over-whole}
 use Rattle.kinds.specs.declared.Report.the-variants.{Success, BadImage}
 use Rattle.promise.specs.Layout.{numberRight, mapAt, trailerAt, sizeOf}
 use Rattle.promise.specs.Trailer.{trailerBytes}
 use Rattle.promise.specs.Format.{freshImage, formatRight, formatReport, formatImage, FormatPromise}
-use Rattle.promise.specs.TrailerLaws.{number}
+use Rattle.promise.proofs.TrailerLaws.{number}
 use Rattle.image.proofs.Pieces.{after, next}
 use Rattle.image.specs.Fresh.{numbers}
 use Rattle.image.specs.Image.{Laid}
 
 -- a write m bytes later, where those between are zs already
-gap : (l : List ℕ) (at k m : ℕ) (xs zs ys : List ℕ) → length xs ≡ k → length zs ≡ m → at + (k + m) ≤ length l → part l (at + k) m ≡ zs
+gap : (l : List ℕ) (at k m : ℕ) (xs zs ys : List ℕ) → length xs ≡ k → length zs ≡ m → at + (k + m) ≤ length l
+    → part l (at + k) m ≡ zs
     → over (over l at xs) (at + (k + m)) ys ≡ over l at (xs ++ (zs ++ ys))
 gap l at k m xs zs ys p q h e =
     let r : List ℕ = over l at xs in
@@ -28,11 +31,13 @@ gap l at k m xs zs ys p q h e =
     let f : part r (at + k) m ≡ zs = frame l at xs (omega arith) (at + k) m (omega arith) ∙ e in
     let s : over r (at + k) zs ≡ r = over-same r (at + k) zs (omega arith) (ap (part r (at + k)) q ∙ f) in
     let t : at + (k + m) ≡ at + k + m = omega arith in
-    ap (λ o. over o (at + (k + m)) ys) (sym s) ∙ rw (t, after r (at + k) m zs ys q (omega arith)) (after l at k xs (zs ++ ys) p (omega arith))
+    ap (λ o. over o (at + (k + m)) ys) (sym s)
+    ∙ rw (t, after r (at + k) m zs ys q (omega arith)) (after l at k xs (zs ++ ys) p (omega arith))
 
 -- five numbers of 4 bytes
 pub five : (l : List ℕ) (at a b c d e : ℕ) → at ≤ length l
-    → over (over (over (over (over l at (bytesOf 4 a)) (at + 4) (bytesOf 4 b)) (at + 8) (bytesOf 4 c)) (at + 12) (bytesOf 4 d)) (at + 16) (bytesOf 4 e)
+    → over (over (over (over (over l at (bytesOf 4 a)) (at + 4) (bytesOf 4 b)) (at + 8) (bytesOf 4 c)) (at + 12)
+    (bytesOf 4 d)) (at + 16) (bytesOf 4 e)
     ≡ over l at (bytesOf 4 a ++ bytesOf 4 b ++ bytesOf 4 c ++ bytesOf 4 d ++ bytesOf 4 e)
 five l at a b c d e h =
     let s1 = next l at h _ _ 4 (refl, length-bytesOf 4 a) (bytesOf 4 b) 4 (length-bytesOf 4 b) in
@@ -42,11 +47,13 @@ five l at a b c d e h =
 
 -- the numbers and the mark make the trailer where there were zeros
 pub trailer-made : (l : List ℕ) (n : ℕ) → length l ≡ sizeOf n → part l (trailerAt n) 512 ≡ blank 512
-    → over (over l (trailerAt n) (numbers n)) (trailerAt n + 508) (bytesOf 4 0x32365250) ≡ over l (trailerAt n) (trailerBytes n 0)
+    → over (over l (trailerAt n) (numbers n)) (trailerAt n + 508) (bytesOf 4 0x32365250)
+    ≡ over l (trailerAt n) (trailerBytes n 0)
 unfolding bytesOf blank trailerBytes
 trailer-made l n e z =
     let s : part l (trailerAt n + 20) 488 ≡ blank 488 =
-    sym (part-part l (trailerAt n) 512 20 488 (omega arith)) ∙ ap (λ r. part r 20 488) z ∙ part-blank 512 20 488 (omega arith) in
+    sym (part-part l (trailerAt n) 512 20 488 (omega arith)) ∙ ap (λ r. part r 20 488) z
+    ∙ part-blank 512 20 488 (omega arith) in
     gap l (trailerAt n) 20 488 (numbers n) (blank 488) (bytesOf 4 0x32365250) refl refl (omega arith) s
 
 -- ---- the whole

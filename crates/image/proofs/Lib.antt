@@ -1,8 +1,8 @@
 pub mod Pieces
 pub mod Trailers
 pub mod Headers
-pub mod Bits
 pub mod Lowest
 pub mod Tallies
+pub mod Eights
 pub mod Checks
 pub mod Fresh

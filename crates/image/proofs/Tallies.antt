@@ -1,7 +1,7 @@
 -- The tally of owners that Check keeps: what one header adds to it, and what it is after all headers.
 -- Assumes nothing.
-use Prim.Native.Nat.{ℕ, _+_, _-_, _*_, _≤_, _<_}
-use mathlib.Core.Path.{_≡_, refl, ap, _∙_}
+use Prim.Native.Nat.{ℕ, _+_, _-_, _*_, _/_, _%_, _≤_, _<_}
+use mathlib.Core.Path.{_≡_, refl, sym, ap, _∙_}
 use mathlib.Core.Bool.{Bool, true, false, cond}
 use mathlib.Core.List.{List, map, map-append}
 use native.Mathlib.Decide.{ℕ-discrete}
@@ -11,16 +11,18 @@ use lib.Dec.{eqb}
 use lib.ListN.{length, take, drop, getD, set, length-set}
 use lib.Seq.{getD-set-same, getD-set-other}
 use Rattle.plain.specs.Tests.{when}
+use Rattle.word.specs.Word.{allZero}
 use Rattle.word.specs.Laws.{length-part}
 use Rattle.word.proofs.Lent.{lent-part}
-use Rattle.run.specs.Run.{just, picked, times}
-use Rattle.run.specs.Laws.{just-yes, just-no, times-append}
+use Rattle.run.specs.Run.{just, times}
+use Rattle.run.specs.Laws.{just-yes, just-no, times-append, picked-few, picked-append}
+use Rattle.run.specs.Tally.{times-picked}
 use Rattle.run.proofs.Turns.{picked-turn, picked-end}
 use Rattle.promise.specs.Header.{headerOf, isUsed, ownerOf}
-use Rattle.promise.specs.HeaderLaws.{client}
+use Rattle.promise.proofs.HeaderLaws.{zero-unused, client}
 use Rattle.promise.specs.Map.{good}
 use Rattle.promise.specs.Counts.{owners}
-use Rattle.image.specs.Image.{tallied}
+use Rattle.image.specs.Image.{tallied, ownersFrom}
 
 -- ---- a header, lent from the image
 
@@ -59,10 +61,6 @@ raised t x u h = go (ℕ-discrete u x)
     go (no d) = rw (ne-eqb u x d) (getD-set-other t x u (getD t x 0 + 1) 0 d ∙ omega arith)
 
 module _ (img : List ℕ) where
-  -- the owners of the used headers among k from b on
-  abbrev pub ownersFrom : (b k : ℕ) → List ℕ
-  ownersFrom b k = map (λ b. ownerOf (headerOf img b)) (picked (λ b. isUsed (headerOf img b)) b k)
-
   abbrev here : ℕ → List ℕ
   here b = map (λ b. ownerOf (headerOf img b)) (just (λ b. isUsed (headerOf img b)) b)
 
@@ -71,48 +69,68 @@ module _ (img : List ℕ) where
   unfolding times tallied
   added b t u c = go (isUsed (headerOf img b)) refl
     where
-      go : (r : Bool) → isUsed (headerOf img b) ≡ r → getD (tallied (headerOf img b) t) u 0 ≡ getD t u 0 + times u (here b)
+      go : (r : Bool) → isUsed (headerOf img b) ≡ r
+          → getD (tallied (headerOf img b) t) u 0 ≡ getD t u 0 + times u (here b)
       go true e =
           rw (e, just-yes (λ b. isUsed (headerOf img b)) b e)
           (raised t (ownerOf (headerOf img b)) u (c e) ∙ omega arith)
       go false e = rw (e, just-no (λ b. isUsed (headerOf img b)) b e) (omega arith)
 
-  one-more : (b u : ℕ) → times u (here b) ≤ 1
-  unfolding times
-  one-more b u = go (isUsed (headerOf img b)) refl (eqb u (ownerOf (headerOf img b))) refl
-    where
-      go : (r : Bool) → isUsed (headerOf img b) ≡ r → (s : Bool) → eqb u (ownerOf (headerOf img b)) ≡ s → times u (here b) ≤ 1
-      go true e true q = rw (just-yes (λ b. isUsed (headerOf img b)) b e, q) (omega arith)
-      go true e false q = rw (just-yes (λ b. isUsed (headerOf img b)) b e, q) (omega arith)
-      go false e s q = rw (just-no (λ b. isUsed (headerOf img b)) b e) (omega arith)
-
   -- ---- one turn, and the end
 
-  pub owners-turn : (b k u : ℕ) → 0 < k → times u (ownersFrom b k) ≡ times u (here b) + times u (ownersFrom (b + 1) (k - 1))
+  pub owners-turn : (b k u : ℕ) → 0 < k
+      → times u (ownersFrom img b k) ≡ times u (here b) + times u (ownersFrom img (b + 1) (k - 1))
   owners-turn b k u h =
-      rw (picked-turn (λ b. isUsed (headerOf img b)) b k h, map-append) (times-append u (here b) (ownersFrom (b + 1) (k - 1)))
+      rw (picked-turn (λ b. isUsed (headerOf img b)) b k h, map-append)
+      (times-append u (here b) (ownersFrom img (b + 1) (k - 1)))
 
-  pub owners-end : (b k u : ℕ) → k ≤ 0 → times u (ownersFrom b k) ≡ 0
+  pub owners-end : (b k u : ℕ) → k ≤ 0 → times u (ownersFrom img b k) ≡ 0
   unfolding times
   owners-end b k u h = rw (picked-end (λ b. isUsed (headerOf img b)) b k h)
 
-  -- ---- the tally of all, with what is left, before the first header, a header on, and after the last
+  -- no more than there are headers
+  pub few : (b k u : ℕ) → times u (ownersFrom img b k) ≤ k
+  few b k u = rw (times-picked (λ b. isUsed (headerOf img b)) (λ b. ownerOf (headerOf img b)) u b k) (picked-few _ b k)
 
-  pub begun : (n : ℕ) (t : List ℕ) → ((u : ℕ) → getD t u 0 ≡ 0) → (u : ℕ) → getD t u 0 + times u (ownersFrom 0 n) ≡ times u (owners n img)
+  -- ---- the tally with what is left: a header on
+
+  pub visited : (b k : ℕ) (whole : ℕ → ℕ) (t t′ : List ℕ) → 0 < k → good img b ≡ true → length t ≡ 64
+      → t′ ≡ tallied (headerOf img b) t
+      → ((u : ℕ) → getD t u 0 + times u (ownersFrom img b k) ≡ whole u)
+      → (u : ℕ) → getD t′ u 0 + times u (ownersFrom img (b + 1) (k - 1)) ≡ whole u
+  visited b k whole t t′ h g l e i u =
+      omega (
+        arith,
+        ap (λ r. getD r u 0) e,
+        added b t u (λ q. omega (arith, client img b g q)),
+        owners-turn b k u h,
+        i u,
+      )
+
+  -- eight headers on
+
+  pub owners-eight : (i k u : ℕ) → 0 < k
+      → times u (ownersFrom img (8 * i) (8 * k))
+      ≡ times u (ownersFrom img (8 * i) 8) + times u (ownersFrom img (8 * (i + 1)) (8 * (k - 1)))
+  owners-eight i k u h =
+      let e : 8 * k ≡ 8 + 8 * (k - 1) = omega arith in
+      let g : 8 * (i + 1) ≡ 8 * i + 8 = omega arith in
+      rw (e, g, picked-append (λ b. isUsed (headerOf img b)) (8 * i) 8 (8 * (k - 1)), map-append)
+      (times-append u (ownersFrom img (8 * i) 8) (ownersFrom img (8 * i + 8) (8 * (k - 1))))
+
+  -- before the first
+
+  pub begun : (n : ℕ) (t : List ℕ) → n % 8 ≡ 0 → ((u : ℕ) → getD t u 0 ≡ 0)
+      → (u : ℕ) → getD t u 0 + times u (ownersFrom img (8 * 0) (8 * (n / 8))) ≡ times u (owners n img)
   unfolding owners
-  begun n t z u = rw (z u) (omega arith)
+  begun n t e z u = let d : 8 * (n / 8) ≡ n = omega arith in rw (d, z u) (omega arith)
 
-  pub visited : (n b k : ℕ) (t t′ : List ℕ) → 0 < k → good img b ≡ true → length t ≡ 64 → t′ ≡ tallied (headerOf img b) t
-      → ((u : ℕ) → getD t u 0 + times u (ownersFrom b k) ≡ times u (owners n img))
-      → (u : ℕ) → getD t′ u 0 + times u (ownersFrom (b + 1) (k - 1)) ≡ times u (owners n img)
-  visited n b k t t′ h g l e i u =
-      omega (arith, ap (λ r. getD r u 0) e, added b t u (λ q. omega (arith, client img b g q)), owners-turn b k u h, i u)
+  pub owners-few : (n u : ℕ) → times u (owners n img) ≤ n
+  unfolding owners
+  owners-few n u = few 0 n u
 
-  pub bounded : (b : ℕ) (t t′ : List ℕ) → good img b ≡ true → length t ≡ 64 → t′ ≡ tallied (headerOf img b) t
-      → ((u : ℕ) → getD t u 0 ≤ b) → (u : ℕ) → getD t′ u 0 ≤ b + 1
-  bounded b t t′ g l e i u =
-      omega (arith, ap (λ r. getD r u 0) e, added b t u (λ q. omega (arith, client img b g q)), i u, one-more b u)
+-- ---- a free header is not tallied
 
-  pub counted : (n b k : ℕ) (t : List ℕ) → k ≤ 0 → ((u : ℕ) → getD t u 0 + times u (ownersFrom b k) ≡ times u (owners n img))
-      → (u : ℕ) → getD t u 0 ≡ times u (owners n img)
-  counted n b k t h i u = omega (arith, owners-end b k u h, i u)
+pub free-tally : (h t : List ℕ) (r : Bool) → r ≡ allZero h → t ≡ when r (tallied h t) t
+free-tally h t true e = tallied-not h t (zero-unused h (sym e))
+free-tally h t false e = refl

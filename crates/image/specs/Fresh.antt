@@ -6,4 +6,5 @@ use Rattle.promise.specs.Trailer.{backToHeaders, backToMap, backToCounts, backT
 
 -- the first five numbers of a trailer: N and the distances
 abbrev pub numbers : ℕ → List ℕ
-numbers n = bytesOf 4 n ++ bytesOf 4 (backToHeaders n) ++ bytesOf 4 (backToMap n) ++ bytesOf 4 (backToCounts n) ++ bytesOf 4 (backToData n)
+numbers n = bytesOf 4 n ++ bytesOf 4 (backToHeaders n) ++ bytesOf 4 (backToMap n) ++ bytesOf 4 (backToCounts n)
+    ++ bytesOf 4 (backToData n)

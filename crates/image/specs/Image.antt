@@ -1,21 +1,21 @@
--- What a caller knows of an image whose trailer it has read; what that reading answers; and the parts of document 01's rules that the
--- code tests one after the other.
+-- What a caller knows of an image whose trailer it has read; what that reading answers; and the parts of document 01's
+-- rules that the code tests one after the other.
 use Prim.Native.Nat.{ℕ, _+_, _/_, _%_, _^_, _<_}
 use mathlib.Core.Path.{_≡_}
 use mathlib.Core.Bool.{Bool, _&&_}
-use mathlib.Core.List.{List, [], _∷_}
+use mathlib.Core.List.{List, [], _∷_, map}
 use lib.Dec.{eqb, leb, ltb}
 use lib.ListN.{length, getD, set}
 use Rattle.plain.specs.Tests.{when}
 use Rattle.word.specs.Word.{part, le, wordAt, allZero}
 use Rattle.kinds.specs.Kinds.{tick}
-use Rattle.run.specs.Run.{allOf, times}
+use Rattle.run.specs.Run.{picked, allOf, times}
 use Rattle.promise.specs.Layout.{sizeOf, endOfTime}
 use Rattle.promise.specs.Trailer.{nOf, clockOf, backToHeaders, backToMap, backToCounts, backToData, mark, trailerRight}
-use Rattle.promise.specs.Header.{isUsed, ownerOf, createdOf, expiresOf}
+use Rattle.promise.specs.Header.{headerOf, isUsed, ownerOf, createdOf, expiresOf}
 use Rattle.promise.specs.Map.{spareZero, good}
 use Rattle.promise.specs.Counts.{countOf, owners}
-use Rattle.promise.specs.TrailerLaws.{Number}
+use Rattle.promise.proofs.TrailerLaws.{Number}
 use Rattle.image.specs.declared.trailer.Trailer.{Trailer}
 use Rattle.image.specs.declared.trailer.Trailer.the-variants.{Bad, Right}
 
@@ -57,7 +57,8 @@ abbrev pub shapeTests : (h : List ℕ) → List Bool
 shapeTests h = isUsed h ∷ allZero (part h 2 6) ∷ allZero (part h 48 16) ∷ leb (ownerOf h) 63 ∷ []
 
 abbrev pub timeTests : (clock : ℕ) (h : List ℕ) → List Bool
-timeTests clock h = leb 1 (createdOf h) ∷ leb (createdOf h) clock ∷ leb 1 (expiresOf h) ∷ ltb (expiresOf h) endOfTime ∷ []
+timeTests clock h = leb 1 (createdOf h) ∷ leb (createdOf h) clock ∷ leb 1 (expiresOf h) ∷ ltb
+    (expiresOf h) endOfTime ∷ []
 
 -- bit j of a byte is 1
 unfoldable pub bitOf : (m j : ℕ) → Bool
@@ -66,6 +67,10 @@ bitOf m j = eqb (m / 2 ^ j % 2) 1
 -- a tally of owners with one more block for the owner of a used header
 unfoldable pub tallied : (h tally : List ℕ) → List ℕ
 tallied h tally = when (isUsed h) (set tally (ownerOf h) (getD tally (ownerOf h) 0 + 1)) tally
+
+-- the owners of the used headers among k from b on
+abbrev pub ownersFrom : (img : List ℕ) (b k : ℕ) → List ℕ
+ownersFrom img b k = map (λ b. ownerOf (headerOf img b)) (picked (λ b. isUsed (headerOf img b)) b k)
 
 -- a client's count is its tally
 abbrev pub sameCount : (n : ℕ) (img tally : List ℕ) (u : ℕ) → Bool

@@ -8,6 +8,13 @@ ghost use Rattle.word.specs.Write.{over, puts};
 ghost use Rattle.promise.specs.Layout.{dataAt};
 ghost use Rattle.promise.specs.Counts.{countOf, countSet, serviceBlock};
 ghost use Rattle.image.specs.Image.{Laid};
+use crate::layout::DISK_BLOCK;
+use crate::layout::HEADER;
+use crate::layout::MAP_AND_COUNTS;
+use crate::layout::NUMBER;
+use crate::layout::SERVICE_BLOCK;
+use crate::layout::TAG;
+use crate::layout::TAG_AT;
 use kinds::BlockNum;
 use kinds::User;
 
@@ -15,14 +22,18 @@ pub fn count_of(img: &[u8], n: usize, u: User) -> u64
     requires { ⌜ Laid (now img) n × (u .0 < 64) ⌝ }
     ensures { λ r. ⌜ r ≡ countOf n (now (img .entry)) (u .0) ⌝ }
 {
-    word::get64(img, 64 * n + 512 + 8 * (u.0 as usize))
+    word::get64(img, HEADER * n + DISK_BLOCK + NUMBER * (u.0 as usize))
 }
 
 pub fn set_count(img: &mut [u8], n: usize, u: User, count: u64)
     requires { ⌜ Laid (now img) n × (u .0 < 64) ⌝ }
     ensures { λ _. ⌜ now (img .exit) ≡ puts (now (img .entry)) (countSet n (u .0) count ∷ []) ⌝ }
 {
-    word::put64(img, 64 * n + 512 + 8 * (u.0 as usize), count)
+    word::put64(
+        img,
+        HEADER * n + DISK_BLOCK + NUMBER * (u.0 as usize),
+        count,
+    )
 }
 
 // The data block of a block: all of a service block's bytes but the tag.
@@ -30,7 +41,11 @@ pub fn put_data(img: &mut [u8], n: usize, b: BlockNum, bytes: &[u8])
     requires { ⌜ Laid (now img) n × (b .0 < n) × (length (now bytes) ≡ 528) ⌝ }
     ensures { λ _. ⌜ now (img .exit) ≡ over (now (img .entry)) (dataAt n (b .0)) (part (now (bytes .entry)) 16 512) ⌝ }
 {
-    word::paste(img, 64 * n + 1024 + 512 * (b.0 as usize), &bytes[16..528])
+    word::paste(
+        img,
+        HEADER * n + MAP_AND_COUNTS + DISK_BLOCK * (b.0 as usize),
+        &bytes[TAG..SERVICE_BLOCK],
+    )
 }
 
 // The 528 bytes of a block: the tag, then the data block.
@@ -39,10 +54,10 @@ pub fn get_block(img: &[u8], n: usize, b: BlockNum, buffer: &mut [u8])
     ensures { λ _. ⌜ now (buffer .exit) ≡ serviceBlock n (now (img .entry)) (b .0) ⌝ }
 {
     let i = b.0 as usize;
-    let tag = 64 * i + 32;
-    let tag_end = tag + 16;
-    let data = 64 * n + 1024 + 512 * i;
-    let data_end = data + 512;
+    let tag = HEADER * i + TAG_AT;
+    let tag_end = tag + TAG;
+    let data = HEADER * n + MAP_AND_COUNTS + DISK_BLOCK * i;
+    let data_end = data + DISK_BLOCK;
     word::paste(buffer, 0, &img[tag..tag_end]);
-    word::paste(buffer, 16, &img[data..data_end])
+    word::paste(buffer, TAG, &img[data..data_end])
 }

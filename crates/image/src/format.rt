@@ -7,9 +7,15 @@ ghost use Rattle.word.specs.Write.{over};
 ghost use Rattle.promise.specs.Layout.{trailerAt};
 ghost use Rattle.promise.specs.Trailer.{trailerBytes};
 ghost use Rattle.promise.specs.Format.{FormatPromise};
-ghost use Rattle.promise.specs.TrailerLaws.{Number};
+ghost use Rattle.promise.proofs.TrailerLaws.{Number};
 ghost use Rattle.image.specs.Fresh.{numbers};
 ghost use Rattle.image.specs.Image.{Laid};
+use crate::layout::ALL_BUT_BLOCKS;
+use crate::layout::EACH_BLOCK;
+use crate::layout::HEADER;
+use crate::layout::MAP_AND_COUNTS;
+use crate::layout::MARK;
+use crate::layout::MARK_AT;
 use crate::trailer;
 use kinds::Report;
 
@@ -31,12 +37,13 @@ fn write_trailer(img: &mut [u8], n: usize)
     requires { ⌜ Laid (now img) n × (part (now img) (trailerAt n) 512 ≡ blank 512) ⌝ }
     ensures { λ _. ⌜ now (img .exit) ≡ over (now (img .entry)) (trailerAt n) (trailerBytes n 0) ⌝ }
 {
-    let at = 576 * n + 1024;
+    let at = EACH_BLOCK * n + MAP_AND_COUNTS;
     write_numbers(img, at, n);
-    word::put32(img, at + 508, 0x32365250);
+    word::put32(img, at + MARK_AT, MARK);
 }
 
-// Zeroes the image, sets its N map bits and writes its trailer; refuses an N or a length that is not right, and then changes no byte.
+// Zeroes the image, sets its N map bits and writes its trailer; refuses an N or a length that is not right, and then
+// changes no byte.
 pub fn format(n: u32, img: &mut [u8]) -> Report
     ensures { λ r. ⌜ FormatPromise n (now (img .entry)) r (now (img .exit)) ⌝ }
 {
@@ -45,11 +52,11 @@ pub fn format(n: u32, img: &mut [u8]) -> Report
         return Report::BadImage;
     }
     let size = img.len();
-    if size != 576 * m + 1536 {
+    if size != EACH_BLOCK * m + ALL_BUT_BLOCKS {
         return Report::BadImage;
     }
     word::clear(img, 0, size);
-    word::fill(img, 64 * m, m / 8, 255);
+    word::fill(img, HEADER * m, m / 8, 255);
     write_trailer(img, m);
     Report::Success
 }

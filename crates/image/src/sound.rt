@@ -1,65 +1,114 @@
 // Check: each header looked at once, with a tally of the owners; then the map's spare bits and the 64 counts.
 ghost use mathlib.Core.Path.{_≡_};
 ghost use mathlib.Core.Bool.{true};
-ghost use Prim.Native.Nat.{ℕ, _+_, _≤_, _<_};
+ghost use Prim.Native.Nat.{ℕ, _+_, _*_, _/_, _≤_, _<_};
 ghost use lib.ListN.{length, getD};
-ghost use Rattle.plain.specs.Tests.{when};
+ghost use Rattle.plain.specs.Tests.{when, all};
 ghost use Rattle.run.specs.Run.{allOf, times};
-ghost use Rattle.promise.specs.Header.{headerOf, isUsed, ownerOf};
-ghost use Rattle.promise.specs.Map.{good};
+ghost use Rattle.word.specs.Word.{wordAt};
+ghost use Rattle.promise.specs.Layout.{mapAt};
+ghost use Rattle.promise.specs.Header.{headerOf};
+ghost use Rattle.promise.specs.Map.{free, good};
 ghost use Rattle.promise.specs.Counts.{owners};
 ghost use Rattle.promise.specs.Sound.{CheckPromise};
-ghost use Rattle.image.specs.Image.{Laid, Known, tallied, sameCount, bodySound};
+ghost use Rattle.image.specs.Image.{Laid, Known, shapeTests, tallied, ownersFrom, sameCount, bodySound};
 use crate::counts;
 use crate::header;
+use crate::layout::HEADER;
 use crate::map;
 use crate::trailer;
 use crate::trailer::Trailer;
 use kinds::BlockNum;
 use kinds::Tick;
 use kinds::User;
+use kinds::limits::CLIENTS;
 
-// One block more for the owner of a used header.
-fn tally_header(h: &[u8], tally: &mut [u32])
-    requires { ⌜ (length (now h) ≡ 64) × (length (now tally) ≡ 64) × (isUsed (now h) ≡ true → ownerOf (now h) < 64) × ((u : ℕ) → getD (now tally) u 0 ≤ 4096) ⌝ }
+// One block more for the owner of a used header: in its first 8 bytes, as one number, all that is above used.
+fn tally_owner(h: &[u8], tally: &mut [u32])
+    requires { ⌜ (length (now h) ≡ 64) × (length (now tally) ≡ 64) × (all (shapeTests (now h)) ≡ true)
+        × ((u : ℕ) → getD (now tally) u 0 ≤ 8192) ⌝ }
     ensures { λ _. ⌜ now (tally .exit) ≡ tallied (now (h .entry)) (now (tally .entry)) ⌝ }
 {
-    if header::is_used(h) {
-        let owner = header::owner(h);
-        let u = owner.0 as usize;
-        let t = tally[u];
-        tally[u] = t + 1;
-    }
+    let x = word::get64(h, 0);
+    let u = (x / 256) as usize;
+    let t = tally[u];
+    tally[u] = t + 1;
 }
 
-// Whether the header of a block is good; if it is, it is tallied.
-fn visit(img: &[u8], n: usize, clock: Tick, b: BlockNum, tally: &mut [u32]) -> bool
-    requires { ⌜ Known (now img) n (clock .0) × (b .0 < n) × (length (now tally) ≡ 64) × ((u : ℕ) → getD (now tally) u 0 ≤ 4096) ⌝ }
+// Whether the header of a block is good, by its map bit; if it is, it is tallied.
+fn visit(img: &[u8], n: usize, clock: Tick, b: BlockNum, bit: bool, tally: &mut [u32]) -> bool
+    requires { ⌜ Known (now img) n (clock .0) × (b .0 < n) × (bit ≡ free n (now img) (b .0)) × (length (now tally) ≡ 64)
+        × ((u : ℕ) → getD (now tally) u 0 ≤ 8192) ⌝ }
     ensures answer { λ r. ⌜ r ≡ good (now (img .entry)) (b .0) ⌝ }
-    ensures tally { λ r. ⌜ now (tally .exit) ≡ when r (tallied (headerOf (now (img .entry)) (b .0)) (now (tally .entry))) (now (tally .entry)) ⌝ }
+    ensures tally { λ r. ⌜ now (tally .exit)
+        ≡ when r (tallied (headerOf (now (img .entry)) (b .0)) (now (tally .entry))) (now (tally .entry)) ⌝ }
 {
-    if !header::is_good(img, n, clock, b) {
+    let at = HEADER * (b.0 as usize);
+    if bit {
+        return word::is_zero8(img, at, 8);
+    }
+    let end = at + HEADER;
+    if !header::used_right(&img[at..end], clock, b) {
         return false;
     }
-    let at = 64 * (b.0 as usize);
-    let end = at + 64;
-    tally_header(&img[at..end], tally);
+    tally_owner(&img[at..end], tally);
     true
+}
+
+// Whether the eight headers of byte i of the map, m, are good, one after the other; if they are, they are tallied.
+fn visit_each(img: &[u8], n: usize, clock: Tick, i: usize, m: u8, tally: &mut [u32]) -> bool
+    requires { ⌜ Known (now img) n (clock .0) × (i < n / 8) × (m ≡ wordAt 1 (now img) (mapAt n + i))
+        × (length (now tally) ≡ 64) × ((u : ℕ) → getD (now tally) u 0 ≤ 4096) ⌝ }
+    ensures answer { λ r. ⌜ r ≡ allOf (good (now (img .entry))) (8 * i) 8 ⌝ }
+    ensures tally { λ r. ⌜ (r ≡ true → (length (now (tally .exit)) ≡ 64)
+        × ((u : ℕ) → getD (now (tally .exit)) u 0
+        ≡ getD (now (tally .entry)) u 0 + times u (ownersFrom (now (img .entry)) (8 * i) 8))) ⌝ }
+{
+    let mut b: usize = 8 * i;
+    let mut j: usize = 0;
+    let mut left: usize = 8;
+    while 0 < left {
+        let bit = (m >> j) % 2 == 1;
+        if !visit(img, n, clock, BlockNum(b as u32), bit, tally) {
+            return false;
+        }
+        b += 1;
+        j += 1;
+        left -= 1;
+    }
+    true
+}
+
+// The same. Where all eight are free, their 512 bytes are tested at once.
+fn visit_eight(img: &[u8], n: usize, clock: Tick, i: usize, tally: &mut [u32]) -> bool
+    requires { ⌜ Known (now img) n (clock .0) × (i < n / 8) × (length (now tally) ≡ 64)
+        × ((u : ℕ) → getD (now tally) u 0 ≤ 4096) ⌝ }
+    ensures answer { λ r. ⌜ r ≡ allOf (good (now (img .entry))) (8 * i) 8 ⌝ }
+    ensures tally { λ r. ⌜ (r ≡ true → (length (now (tally .exit)) ≡ 64)
+        × ((u : ℕ) → getD (now (tally .exit)) u 0
+        ≡ getD (now (tally .entry)) u 0 + times u (ownersFrom (now (img .entry)) (8 * i) 8))) ⌝ }
+{
+    let m = word::get8(img, HEADER * n + i);
+    if m == 255 {
+        return word::is_zero8(img, HEADER * (8 * i), 64);
+    }
+    visit_each(img, n, clock, i, m, tally)
 }
 
 // Whether all headers are good; if they are, the owners are tallied.
 fn visit_all(img: &[u8], n: usize, clock: Tick, tally: &mut [u32]) -> bool
     requires { ⌜ Known (now img) n (clock .0) × (length (now tally) ≡ 64) × ((u : ℕ) → getD (now tally) u 0 ≡ 0) ⌝ }
     ensures answer { λ r. ⌜ r ≡ allOf (good (now (img .entry))) 0 n ⌝ }
-    ensures tally { λ r. ⌜ (r ≡ true → (length (now (tally .exit)) ≡ 64) × ((u : ℕ) → u < 64 → getD (now (tally .exit)) u 0 ≡ times u (owners n (now (img .entry))))) ⌝ }
+    ensures tally { λ r. ⌜ (r ≡ true → (length (now (tally .exit)) ≡ 64)
+        × ((u : ℕ) → u < 64 → getD (now (tally .exit)) u 0 ≡ times u (owners n (now (img .entry))))) ⌝ }
 {
-    let mut b: usize = 0;
-    let mut left = n;
+    let mut i: usize = 0;
+    let mut left = n / 8;
     while 0 < left {
-        if !visit(img, n, clock, BlockNum(b as u32), tally) {
+        if !visit_eight(img, n, clock, i, tally) {
             return false;
         }
-        b += 1;
+        i += 1;
         left -= 1;
     }
     true
@@ -97,7 +146,7 @@ fn body_sound(img: &[u8], n: usize, clock: Tick) -> bool
     requires { ⌜ Known (now img) n (clock .0) ⌝ }
     ensures { λ r. ⌜ r ≡ bodySound (now (img .entry)) ⌝ }
 {
-    let mut tally = [0u32; 64];
+    let mut tally = [0u32; CLIENTS];
     if !visit_all(img, n, clock, &mut tally) {
         return false;
     }

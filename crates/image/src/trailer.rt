@@ -11,7 +11,17 @@ ghost use Rattle.promise.specs.Layout.{numberRight};
 ghost use Rattle.promise.specs.Trailer.{rightTrailer, clockSet};
 ghost use Rattle.image.specs.Image.{Laid, distanceTests, restTests, trailerAnswer};
 use crate::both;
+use crate::layout::ALL_BUT_BLOCKS;
+use crate::layout::CLOCK_AT;
+use crate::layout::DISK_BLOCK;
+use crate::layout::EACH_BLOCK;
+use crate::layout::MAP_AND_COUNTS;
+use crate::layout::MARK;
+use crate::layout::MARK_AT;
 use kinds::Tick;
+use kinds::limits::END_OF_TIME;
+use kinds::limits::LEAST_BLOCKS;
+use kinds::limits::MOST_BLOCKS;
 
 // What an image's trailer says, where it is right.
 pub enum Trailer {
@@ -23,7 +33,7 @@ pub enum Trailer {
 pub fn number_right(n: usize) -> bool
     ensures { λ r. ⌜ r ≡ numberRight n ⌝ }
 {
-    both(both(n % 8 == 0, 8 <= n), n <= 4096)
+    both(both(n % 8 == 0, LEAST_BLOCKS <= n), n <= MOST_BLOCKS)
 }
 
 // Whether the 4 bytes at a place are this number.
@@ -54,10 +64,10 @@ fn rest_right(t: &[u8]) -> bool
     both(
         word::is_zero(t, 20, 4),
         both(
-            word::get64(t, 24) < 1099511627776,
+            word::get64(t, CLOCK_AT) < END_OF_TIME,
             both(
                 word::is_zero(t, 32, 476),
-                both(is32(t, 508, 0x32365250), true),
+                both(is32(t, MARK_AT, MARK as usize), true),
             ),
         ),
     )
@@ -72,7 +82,7 @@ fn right_trailer(t: &[u8], size: usize) -> bool
     if !number_right(n) {
         return false;
     }
-    if size != 576 * n + 1536 {
+    if size != EACH_BLOCK * n + ALL_BUT_BLOCKS {
         return false;
     }
     both(distances_right(t, n), rest_right(t))
@@ -82,15 +92,15 @@ pub fn read_trailer(img: &[u8]) -> Trailer
     ensures { λ r. ⌜ r ≡ trailerAnswer (now (img .entry)) ⌝ }
 {
     let size = img.len();
-    if size < 512 {
+    if size < DISK_BLOCK {
         return Trailer::Bad;
     }
-    let at = size - 512;
+    let at = size - DISK_BLOCK;
     let t = &img[at..];
     if right_trailer(t, size) {
         Trailer::Right {
             n: word::get32(t, 0) as usize,
-            clock: Tick(word::get64(t, 24)),
+            clock: Tick(word::get64(t, CLOCK_AT)),
         }
     } else {
         Trailer::Bad
@@ -102,5 +112,5 @@ pub fn set_clock(img: &mut [u8], n: usize, time: Tick)
     requires { ⌜ Laid (now img) n ⌝ }
     ensures { λ _. ⌜ now (img .exit) ≡ puts (now (img .entry)) (clockSet n (time .0) ∷ []) ⌝ }
 {
-    word::put64(img, 576 * n + 1024 + 24, time.0)
+    word::put64(img, EACH_BLOCK * n + MAP_AND_COUNTS + CLOCK_AT, time.0)
 }

@@ -6,11 +6,14 @@ use Prim.Native.Nat.{ℕ}
 use lib.ListN.{getD}
 use Rattle.kinds.specs.Report.{numberOf}
 use Rattle.kinds.specs.declared.Report.{Report}
-use Rattle.kinds.specs.declared.Report.the-variants.{Success, BadImage, BadUser, BadTime, ClockNotLater, NotManager, BadKey, BadCount, BadRoom, Damaged, NoSuchBlock, NotOwner, NoSpace}
+use Rattle.kinds.specs.declared.Report.the-variants.{Success, BadImage, BadUser, BadTime, ClockNotLater}
+use Rattle.kinds.specs.declared.Report.the-variants.{NotManager, BadKey, BadCount, BadRoom, Damaged, NoSuchBlock}
+use Rattle.kinds.specs.declared.Report.the-variants.{NotOwner, NoSpace}
 
 -- the reports in the order in which they are tested
 abbrev pub inOrder : List Report
-inOrder = Success ∷ BadImage ∷ BadUser ∷ BadTime ∷ ClockNotLater ∷ NotManager ∷ BadKey ∷ BadCount ∷ BadRoom ∷ Damaged ∷ NoSuchBlock ∷ NotOwner ∷ NoSpace ∷ []
+inOrder = Success ∷ BadImage ∷ BadUser ∷ BadTime ∷ ClockNotLater ∷ NotManager ∷ BadKey ∷ BadCount ∷ BadRoom ∷ Damaged ∷
+    NoSuchBlock ∷ NotOwner ∷ NoSpace ∷ []
 
 -- a report stands at its own number
 pub placed : (r : Report) → getD inOrder (numberOf r) Success ≡ r

@@ -1,7 +1,9 @@
 -- Document 01's table of reports: the number of each.
 use Prim.Native.Nat.{ℕ}
 use Rattle.kinds.specs.declared.Report.{Report}
-use Rattle.kinds.specs.declared.Report.the-variants.{Success, BadImage, BadUser, BadTime, ClockNotLater, NotManager, BadKey, BadCount, BadRoom, Damaged, NoSuchBlock, NotOwner, NoSpace}
+use Rattle.kinds.specs.declared.Report.the-variants.{Success, BadImage, BadUser, BadTime, ClockNotLater}
+use Rattle.kinds.specs.declared.Report.the-variants.{NotManager, BadKey, BadCount, BadRoom, Damaged, NoSuchBlock}
+use Rattle.kinds.specs.declared.Report.the-variants.{NotOwner, NoSpace}
 
 abbrev pub numberOf : Report → ℕ
 numberOf Success = 0

@@ -2,19 +2,25 @@
 ghost use mathlib.Core.Path.{_≡_};
 ghost use Rattle.kinds.specs.Report.{numberOf};
 
+pub mod limits;
+
 // A time, in ticks of 1 ms.
+#[repr(C)]
 pub struct Tick(pub u64);
 
 // An amount, negative where it is given back.
+#[repr(C)]
 pub struct Money(pub i64);
 
 // A client's number.
+#[repr(C)]
 pub struct User(pub u32);
 
 // A service block's number.
 pub struct BlockNum(pub u32);
 
 // A block's identifier. Zero is NullId.
+#[repr(C)]
 pub struct Id(pub u64);
 
 // What a call reports, in the order in which the reports are tested.
@@ -117,7 +123,9 @@ pub struct ProfileAnswer {
     pub entries: u32,
 }
 
-// A walk over a client's ids, kept by its caller: how many ids a step may name, the key to go on with, and whether the end key came.
+// A walk over a client's ids, kept by its caller: how many ids a step may name, the key to go on with, and whether the
+// end key came.
+#[repr(C)]
 pub struct Walk {
     pub client: User,
     pub count: u32,

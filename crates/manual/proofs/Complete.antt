@@ -16,7 +16,8 @@ use Rattle.manual.specs.Frames.{StartKey}
 use Rattle.manual.specs.State.{SS, φBasicParams, owned}
 use Rattle.manual.specs.Reports.{Success}
 use Rattle.manual.specs.Client.{GetIds-success, GetIds}
-use Rattle.manual.specs.Walk.{Call, Walk, last, more, named, passes, total, calls, All, Throughout, Truthful, Complete}
+use Rattle.manual.specs.Walk.{Call, Walk, last, more, named, passes, total, calls, All, Throughout, Truthful}
+use Rattle.manual.specs.Walk.{Complete}
 use Rattle.manual.specs.Scan.{NoZeroCount}
 use Rattle.manual.proofs.Keys.{Between, between-in, between-out, larger-key}
 
@@ -40,7 +41,8 @@ module _ {k : Constants} {xs : Set} {key? key! passed : ℕ} {ids : List ℕ} (h
         (λ (e : x ∉ h .subxs). let z = h .names x ∙ one-no (h .subxs) x e in absurd (omega arith)) (decide (h .subxs x))
 
     unless : (Between k key? key! xs x → ⊥) → times x ids ≡ 0
-    unless n = ⊎-elim (λ (p : 0 < times x ids). absurd (n (there p))) (λ (p : times x ids ≤ 0). omega arith) (lt-or-le 0 (times x ids))
+    unless n = ⊎-elim (λ (p : 0 < times x ids). absurd (n (there p))) (λ (p : times x ids ≤ 0). omega arith)
+        (lt-or-le 0 (times x ids))
 
     behind : k .num x < key? → times x ids ≡ 0
     behind l = unless (λ b. omega (arith, b .from))
@@ -70,7 +72,8 @@ module _ {k : Constants} {S : Type 0} {listed : S → Set} where
   named-once (more passed ids key! h between s′ w) x i l t =
       times-append x ids (named w)
       ∙ ⊎-elim
-      (λ (p : k .num x < key!). omega (arith, here h x (record { id = i; from = l; below = p; listed = t .0 }), none-left w x p))
+      (λ (p : k .num x < key!). omega
+      (arith, here h x (record { id = i; from = l; below = p; listed = t .0 }), none-left w x p))
       (λ (q : key! ≤ k .num x). omega (arith, ahead h x q, named-once w x i q (t .2)))
       (lt-or-le (k .num x) key!)
 
@@ -86,7 +89,8 @@ module _ {k : Constants} {S : Type 0} {listed : S → Set} where
   all-true (more passed ids key! h between s′ w) = (λ x p. there h x p .listed, all-true w)
 
   -- what is listed at no time is not named
-  never : {s : S} {key? : ℕ} (w : Walk k listed s key?) (x : ℕ) → Throughout (λ s. x ∉ listed s) w → times x (named w) ≡ 0
+  never : {s : S} {key? : ℕ} (w : Walk k listed s key?) (x : ℕ) → Throughout (λ s. x ∉ listed s) w
+      → times x (named w) ≡ 0
   never (last passed ids h) x t = absent h x t
   never (more passed ids key! h between s′ w) x t =
       times-append x ids (named w) ∙ omega (arith, absent h x (t .0), never w x (t .2))
@@ -121,13 +125,15 @@ module _ {k : Constants} {S : Type 0} {listed : S → Set} where
 -- ---- GetIds: one that reports success is such a call, over the ids that the client owns
 
 success-call : (k : Constants) {p : φBasicParams} {s s′ : SS} {key? count? key! : ℕ} {idset! : List ℕ}
-    → GetIds-success k p s s′ key? count? key! idset! → Call k (owned (p .clientnum) (s .blocks)) key? key! (key! - key?) idset!
+    → GetIds-success k p s s′ key? count? key! idset!
+    → Call k (owned (p .clientnum) (s .blocks)) key? key! (key! - key?) idset!
 success-call k {key? = key?} {key! = key! } g =
     let l = larger-key k key? key! (g .keys .grows) in
     record { subxs = g .subxs; keys = g .keys; names = g .idset; distance = omega arith }
 
 pub getIds-call : (k : Constants) {p : φBasicParams} {s s′ : SS} {key? count? key! : ℕ} {idset! : List ℕ}
-    → GetIds k p s s′ key? count? key! idset! → Success p → Call k (owned (p .clientnum) (s .blocks)) key? key! (key! - key?) idset!
+    → GetIds k p s s′ key? count? key! idset! → Success p
+    → Call k (owned (p .clientnum) (s .blocks)) key? key! (key! - key?) idset!
 getIds-call k (inl h) ok = let z : _≡_ {A = ℕ} 0 1 = cc (h .1 .report!) in absurd (omega arith)
 getIds-call k (inr h) ok = success-call k (h .1 .0)
 

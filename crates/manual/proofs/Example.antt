@@ -1,5 +1,5 @@
--- A walk of three calls over the stores of specs/Example.antt, with a Destroy, a Create and a Scavenge after the first call: what the theorem
--- on walks speaks of exists.
+-- A walk of three calls over the stores of specs/Example.antt, with a Destroy, a Create and a Scavenge after the first
+-- call: what the theorem on walks speaks of exists.
 -- Assumes nothing.
 use Prim.Native.Nat.{ℕ, zero, suc, _/_, _≤_, _<_}
 use mathlib.Core.Path.{_≡_, refl, sym, _∙_, ap}
@@ -16,7 +16,8 @@ use Rattle.run.specs.Run.{one, just, picked, visits, times}
 use Rattle.run.specs.Laws.{one-no}
 use Rattle.manual.specs.Sets.{Set, _∈_, _∉_, only, _∩_, _∪_, _∖_, HasSize}
 use Rattle.manual.specs.Given.{SuccessReport}
-use Rattle.manual.specs.State.{Block, Blocks, SS, by, meets, such, dom, owned, expired, put, _⩤_, Invariant, NewIds}
+use Rattle.manual.specs.State.{Block, Blocks, SS, by, meets, such, dom, owned, expired, put, _⩤_, Invariant}
+use Rattle.manual.specs.State.{NewIds}
 use Rattle.manual.specs.Frames.{EndKey, KeySet}
 use Rattle.manual.specs.Client.{Create-success, Create, Destroy, GetIds}
 use Rattle.manual.specs.Manager.{Scavenge}
@@ -35,7 +36,8 @@ not-so e = absurd (true≢false (sym e))
 -- ---- what holds of each member of a set, member by member
 
 module _ (t : Block → Bool) (m : Blocks) (P : ℕ → Type 0) where
-  each-put : (i : ℕ) (b : Block) → (t b ≡ true → P i) → ((x : ℕ) → x ∈ such t m → P x) → (x : ℕ) → x ∈ such t (put m i b) → P x
+  each-put : (i : ℕ) (b : Block) → (t b ≡ true → P i) → ((x : ℕ) → x ∈ such t m → P x) → (x : ℕ)
+      → x ∈ such t (put m i b) → P x
   each-put i b here rest x = go (eqb x i) refl
     where
       go : (q : Bool) → eqb x i ≡ q → meets t (cond q (some b) (m x)) ≡ true → P x
@@ -43,15 +45,19 @@ module _ (t : Block → Bool) (m : Blocks) (P : ℕ → Type 0) where
       go false e h = rest x h
 
   each-cut : (X : Set) → ((x : ℕ) → x ∈ such t m → x ∉ X → P x) → (x : ℕ) → x ∈ such t (X ⩤ m) → P x
-  each-cut X rest x h = let w = both (such t m x) (not (X x)) (sym (such-cut t X m x) ∙ h) in rest x (w .0) (not-true (X x) (w .1))
+  each-cut X rest x h = let w = both (such t m x) (not (X x)) (sym (such-cut t X m x)
+      ∙ h) in rest x (w .0) (not-true (X x) (w .1))
 
 -- of the ids of the first store, and of the third, each that passes a test
 module _ (t : Block → Bool) where
-  each-first : (P : ℕ → Type 0) → (t (block 3 1 90) ≡ true → P 4) → (t (block 5 2 5) ≡ true → P 9) → (t (block 3 3 90) ≡ true → P 14)
+  each-first : (P : ℕ → Type 0) → (t (block 3 1 90) ≡ true → P 4) → (t (block 5 2 5) ≡ true → P 9)
+      → (t (block 3 3 90) ≡ true → P 14)
       → (t (block 3 4 7) ≡ true → P 19) → (x : ℕ) → x ∈ such t (first .blocks) → P x
-  each-first P a b c d = each-put t _ P 4 _ a (each-put t _ P 9 _ b (each-put t _ P 14 _ c (each-put t _ P 19 _ d (λ x h. not-so h))))
+  each-first P a b c d = each-put t _ P 4 _ a
+      (each-put t _ P 9 _ b (each-put t _ P 14 _ c (each-put t _ P 19 _ d (λ x h. not-so h))))
 
-  each-third : (P : ℕ → Type 0) → (t (block 3 6 90) ≡ true → P 24) → (t (block 5 2 5) ≡ true → P 9) → (t (block 3 3 90) ≡ true → P 14)
+  each-third : (P : ℕ → Type 0) → (t (block 3 6 90) ≡ true → P 24) → (t (block 5 2 5) ≡ true → P 9)
+      → (t (block 3 3 90) ≡ true → P 14)
       → (t (block 3 4 7) ≡ true → P 19) → (x : ℕ) → x ∈ such t (third .blocks) → P x
   each-third P a b c d =
       each-put t _ P 24 _ a
@@ -92,8 +98,10 @@ shows-first : Shows k (owned 3 (first .blocks)) mine ids
 unfolding k
 shows-first =
     record {
-      holds = each-number (Held (owned 3 (first .blocks)) mine ids) (λ e. (refl, refl)) not-so (λ e. (refl, refl)) (λ e. (refl, refl));
-      stands = each-first _ (Stands mine ids) (λ e. (refl, refl, refl)) not-so (λ e. (refl, refl, refl)) (λ e. (refl, refl, refl));
+      holds = each-number (Held (owned 3 (first .blocks)) mine ids) (λ e. (refl, refl)) not-so (λ e. (refl, refl))
+          (λ e. (refl, refl));
+      stands = each-first _ (Stands mine ids) (λ e. (refl, refl, refl)) not-so (λ e. (refl, refl, refl))
+          (λ e. (refl, refl, refl));
     }
 
 -- the expired block in the third store
@@ -116,7 +124,8 @@ shows-fourth : Shows k (owned 3 (fourth .blocks)) mine ids′
 unfolding k
 shows-fourth =
     record {
-      holds = each-number (Held (owned 3 (fourth .blocks)) mine ids′) (λ e. (refl, refl)) not-so (λ e. (refl, refl)) (λ e. (refl, refl));
+      holds = each-number (Held (owned 3 (fourth .blocks)) mine ids′) (λ e. (refl, refl)) not-so (λ e. (refl, refl))
+          (λ e. (refl, refl));
       stands =
           each-cut _ (third .blocks) (Stands mine ids′) _
           (each-third _ (λ x. x ∉ (KeySet k 4 ∖ KeySet k 0) ∩ expired 7 (third .blocks) → Stands mine ids′ x)
@@ -147,7 +156,8 @@ sound = record { ids = known; few = (4, four, omega arith); fresh = fresh; null 
     fresh : (x : ℕ) → x ∈ first .newids → x ∉ dom (first .blocks)
     fresh x h =
         let l = ltb-true 4 (k .time x) (both (k .BlockId x) (ltb 4 (k .time x)) h .1) in
-        let early = each-first (λ b. true) (λ x. x / 4 ≤ 4) (λ e. omega arith) (λ e. omega arith) (λ e. omega arith) (λ e. omega arith) in
+        let early = each-first (λ b. true) (λ x. x / 4 ≤ 4) (λ e. omega arith) (λ e. omega arith) (λ e. omega arith)
+        (λ e. omega arith) in
         out-of (dom (first .blocks) x) (λ d. omega (arith, early x d))
 
 -- ---- the three operations, and what they keep
@@ -157,7 +167,11 @@ one-block e = cc
 
 pub destroyed : Destroy k (by 3 5 SuccessReport) first second 4
 unfolding k
-destroyed = inr (λ e. not-so (sym e), inr (mine-only, (record { block = block 3 1 90; old = refl; blocks = λ x. refl; newids = λ x. refl }, refl)))
+destroyed = inr (
+  λ e. not-so (sym e),
+  inr
+      (mine-only, (record { block = block 3 1 90; old = refl; blocks = λ x. refl; newids = λ x. refl }, refl)),
+)
   where
     mine-only : (b : Block) × (first .blocks 4 ≡ some b) × (b .owner ≢ 3) → ⊥
     mine-only n = n .2 (sym (ap (λ b. b .owner) (one-block (n .1))))
@@ -186,12 +200,14 @@ created = inr (not-full, (new, refl))
 
 pub scavenged : Scavenge k (by 0 7 SuccessReport) third fourth 0 4 1
 unfolding k picked just
-scavenged = scans k .scavenge {p = by 0 7 SuccessReport} {s = third} {s′ = fourth} shows-third 0 (omega arith) refl refl (λ x. refl) (λ x. refl)
+scavenged = scans k .scavenge {p = by 0 7 SuccessReport} {s = third} {s′ = fourth} shows-third 0 (omega arith) refl refl
+    (λ x. refl) (λ x. refl)
 
 pub still-sound : Invariant k fourth
 still-sound =
     let a = kept k .destroy {p = by 3 5 SuccessReport} {id? = 4} first second sound destroyed .invariant in
-    let b = kept k .create {p = by 3 6 SuccessReport} {expiry? = 90} {data? = []} {id! = 24} second third a created .invariant in
+    let b = kept k .create {p = by 3 6 SuccessReport} {expiry? = 90} {data? = []}
+    {id! = 24} second third a created .invariant in
     kept k .scavenge {p = by 0 7 SuccessReport} {key? = 0} {key! = 4} {count! = 1} third fourth b scavenged .invariant
 
 -- ---- the walk: client 3 asks for one id at a time, and the three operations come after the first call
@@ -199,7 +215,8 @@ still-sound =
 -- a call for one id
 ask : (s : SS) (ids : ℕ → ℕ) → Shows k (owned 3 (s .blocks)) mine ids → (key? : ℕ) → key? < EndKey k
     → GetIds k (by 3 0 SuccessReport) s s key? 1 (passFor k mine ids 1 key? .key!) (passFor k mine ids 1 key? .ids)
-ask s ids h key? l = scans k .getIds {p = by 3 0 SuccessReport} h key? 1 l (omega arith) refl (record { blocks = λ x. refl; newids = λ x. refl })
+ask s ids h key? l = scans k .getIds {p = by 3 0 SuccessReport} h key? 1 l (omega arith) refl
+    (record { blocks = λ x. refl; newids = λ x. refl })
 
 pub got-first : GetIds k (by 3 0 SuccessReport) first first 0 1 1 (4 ∷ [])
 unfolding k picked just visits one
@@ -220,8 +237,8 @@ walk =
     (more 2 (14 ∷ []) 3 (getIds-call k got-second refl) [] fourth
     (last 1 (19 ∷ []) (getIds-call k got-third refl)))
 
--- the theorem applies: block 2 was there throughout and is named once, though block 0 was removed and made anew, and block 1 removed,
--- before its turn came
+-- the theorem applies: block 2 was there throughout and is named once, though block 0 was removed and made anew, and
+-- block 1 removed, before its turn came
 pub named-once : times 14 (named walk) ≡ 1
 unfolding k
 named-once = complete walk .once 14 refl (refl, (refl, (refl, tt)), (refl, tt, refl))

@@ -14,14 +14,19 @@ use Rattle.run.specs.Run.{times}
 use Rattle.run.specs.Laws.{one-no}
 use Rattle.manual.specs.Sets.{Set, _∈_, _∉_, only, _∪_, _⊆_, _≈_, HasSize}
 use Rattle.manual.specs.Given.{Constants, Report}
-use Rattle.manual.specs.State.{Block, Blocks, SS, φBasicParams, dom, meets, put, _⩤_, Invariant, InitSS, later, NewIds, ΔSS, ΞSS}
+use Rattle.manual.specs.State.{Block, Blocks, SS, φBasicParams, dom, meets, put, _⩤_, Invariant, InitSS, later}
+use Rattle.manual.specs.State.{NewIds, ΔSS, ΞSS}
 use Rattle.manual.specs.Frames.{φNewBlock}
 use Rattle.manual.specs.Reports.{Failed}
 use Rattle.manual.specs.Client.{Create-success, Destroy-success, Replace-success, SetExpiry-success}
 use Rattle.manual.specs.Manager.{Scavenge-success}
-use Rattle.manual.specs.Kept.{Keeps, Kept, NewIdsRead, Dated}
+use Rattle.manual.specs.Kept.{Issued, Keeps, Kept, NewIdsRead, Dated}
 use Rattle.manual.proofs.Maps.{out-of, either, or-left, or-right, dom-put, dom-cut, such-cut, such-same}
 use Rattle.manual.proofs.Sizes.{resized, added, fewer, taken}
+
+-- an id that is issued is new, and what is new is not stored
+pub issued : {k : Constants} → Issued k
+issued = record { create = λ i c. i .fresh _ (c .new .new); replace = λ i c. i .fresh _ (c .new .new) }
 
 abbrev stored : Block → Bool
 stored b = true
@@ -56,12 +61,14 @@ module _ (k : Constants) (s s′ : SS) (i : Invariant k s) where
     fresh x h =
         let w = was-new x h in
         out-of (dom (s′ .blocks) x)
-        (λ e. ⊎-elim (λ (o : x ∈ dom (s .blocks)). true≢false (sym o ∙ i .fresh x (w .0))) (λ o. omega (arith, w .1, o .1)) (origin x e))
+        (λ e. ⊎-elim (λ (o : x ∈ dom (s .blocks)). true≢false (sym o
+        ∙ i .fresh x (w .0))) (λ o. omega (arith, w .1, o .1)) (origin x e))
 
     known : (x : ℕ) → x ∈ dom (s′ .blocks) ∪ s′ .newids → x ∈ dom (s .blocks) ∪ s .newids
     known x h =
         ⊎-elim
-        (λ e. ⊎-elim (λ o. or-left (dom (s .blocks) x) (s .newids x) o) (λ o. or-right (dom (s .blocks) x) (s .newids x) (o .0)) (origin x e))
+        (λ e. ⊎-elim (λ o. or-left (dom (s .blocks) x) (s .newids x) o)
+        (λ o. or-right (dom (s .blocks) x) (s .newids x) (o .0)) (origin x e))
         (λ e. or-right (dom (s .blocks) x) (s .newids x) (was-new x e .0))
         (either (dom (s′ .blocks) x) (s′ .newids x) h)
 
@@ -94,7 +101,8 @@ module _ (k : Constants) (s s′ : SS) (i : Invariant k s) where
     -- a new block is stored beside a part of what was
     grown : (m : Blocks) {n : ℕ} → dom m ⊆ dom (s .blocks) → HasSize (dom m) n → n < k .MaxBlocks
         → {b : Block} {id! : ℕ} → φNewBlock k p s b id! → s′ .blocks ≈ put m id! b → Keeps k s s′
-    grown m {n} part size room {b} {id! } new e = changed p δ (suc n, resized (λ x. sym (d x)) (added (dom m) id! out size), room) origin
+    grown m {n} part size room {b} {id! } new e = changed p δ
+        (suc n, resized (λ x. sym (d x)) (added (dom m) id! out size), room) origin
       where
         d : dom (s′ .blocks) ≈ only id! ∪ dom m
         d x = such-same stored e x ∙ dom-put m id! b x
@@ -104,7 +112,11 @@ module _ (k : Constants) (s s′ : SS) (i : Invariant k s) where
 
         origin : (x : ℕ) → x ∈ dom (s′ .blocks) → (x ∈ dom (s .blocks)) ⊎ ((x ∈ s .newids) × (k .time x ≡ p .now))
         origin x h =
-            ⊎-elim (λ q. let z = eqb-true x id! q in inr (ap (s .newids) z ∙ new .new, ap (k .time) z ∙ new .made)) (λ q. inl (part x q))
+            ⊎-elim (λ q. let z = eqb-true x id! q in inr (
+              ap (s .newids) z ∙ new .new,
+              ap (k .time) z
+                  ∙ new .made,
+            )) (λ q. inl (part x q))
             (either (eqb x id!) (dom m x) (sym (d x) ∙ h))
 
   module _ {p : φBasicParams} where
@@ -129,7 +141,8 @@ module _ (k : Constants) (s s′ : SS) (i : Invariant k s) where
     setExpiry {id?} c =
         shrunk p (c .newids)
         (λ x h. ⊎-elim (λ q. ap (dom (s .blocks)) (eqb-true x id? q) ∙ ap (λ o. meets stored o) (c .old)) (λ q. q)
-        (either (eqb x id?) (dom (s .blocks) x) (sym (such-same stored (c .blocks) x ∙ dom-put (s .blocks) id? (c .newblock) x) ∙ h)))
+        (either (eqb x id?) (dom (s .blocks) x) (sym (such-same stored (c .blocks) x
+        ∙ dom-put (s .blocks) id? (c .newblock) x) ∙ h)))
 
     scavenge : {key? key! count! : ℕ} → Scavenge-success k p s s′ key? key! count! → Keeps k s s′
     scavenge c = cut p (c .newids) (c .subxs) (c .blocks)
@@ -146,7 +159,8 @@ initial k s′ e =
       ids = λ x h. both (k .BlockId x) (not (eqb x (k .NullId))) (sym (e .newids x) ∙ rw (none-stored x) at h) .0;
       few = (0, ([], λ x. sym (one-no (dom (s′ .blocks)) x (none-stored x)), refl), omega arith);
       fresh = λ x h. none-stored x;
-      null = rw (none-stored (k .NullId), e .newids (k .NullId), eq-eqb (k .NullId) (k .NullId) refl) (and-false (k .BlockId (k .NullId)));
+      null = rw (none-stored (k .NullId), e .newids (k .NullId), eq-eqb (k .NullId) (k .NullId) refl)
+          (and-false (k .BlockId (k .NullId)));
     }
   where
     none-stored : (x : ℕ) → x ∉ dom (s′ .blocks)
@@ -181,12 +195,14 @@ new-ids k =
     record {
       start = λ {s′} z t e x. e .newids x ∙ started z t x (k .BlockId x) refl (eqb x (k .NullId)) refl;
       moved = λ p s s′ clock l r.
-          let both-later : later k (p .now) (s .newids) ≈ NewIds k (p .now) = λ x. rw (r x) (later-later (k .BlockId x) clock (p .now) (k .time x) l) in
+          let both-later : later k (p .now) (s .newids) ≈ NewIds k (p .now) = λ x. rw (r x)
+          (later-later (k .BlockId x) clock (p .now) (k .time x) l) in
           (λ δ x. δ x ∙ both-later x, λ e x. e x ∙ sym (both-later x));
     }
   where
     started : k .time (k .NullId) ≡ 0 → ((x : ℕ) → x ∈ k .BlockId → x ≢ k .NullId → 0 < k .time x)
-        → (x : ℕ) (b : Bool) → k .BlockId x ≡ b → (q : Bool) → eqb x (k .NullId) ≡ q → b && not q ≡ b && ltb 0 (k .time x)
+        → (x : ℕ) (b : Bool) → k .BlockId x ≡ b → (q : Bool) → eqb x (k .NullId) ≡ q
+        → b && not q ≡ b && ltb 0 (k .time x)
     started z t x false f q e = refl
     started z t x true f true e = sym (le-ltb 0 (k .time x) (omega (arith, ap (k .time) (eqb-true x (k .NullId) e), z)))
     started z t x true f false e = sym (lt-ltb 0 (k .time x) (t x f (eqb-false x (k .NullId) e)))
@@ -197,6 +213,10 @@ pub dated : (k : Constants) → Dated k
 dated k =
     record {
       create = λ {p} c. omega (arith, c .expires, c .new .created);
-      replace = λ {p} c. (λ h. omega (arith, c .expires, c .new .created), λ h. omega (arith, c .expires, c .new .created));
+      replace = λ {p} c. (
+        λ h. omega (arith, c .expires, c .new .created),
+        λ h. omega
+            (arith, c .expires, c .new .created),
+      );
       setExpiry = λ {p} c h. omega (arith, c .expires, c .created);
     }

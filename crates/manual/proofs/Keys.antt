@@ -15,15 +15,18 @@ use Rattle.manual.proofs.Maps.{out-of}
 
 module _ (k : Constants) where
   start-key : KeySet k (StartKey k) ≈ ∅
-  start-key x = out-of _ (λ e. let l = ltb-true (k .num x) 0 (both (k .BlockId x) (ltb (k .num x) 0) e .1) in omega arith)
+  start-key x = out-of _ (λ e. let l = ltb-true (k .num x) 0
+      (both (k .BlockId x) (ltb (k .num x) 0) e .1) in omega arith)
 
   end-key : KeySet k (EndKey k) ≈ k .BlockId
-  end-key x = ⊎-elim (λ (e : k .BlockId x ≡ true). rw (e, lt-ltb _ _ (k .numbered x e))) (λ (e : k .BlockId x ≡ false). rw e) (decide (k .BlockId x))
+  end-key x = ⊎-elim (λ (e : k .BlockId x ≡ true). rw (e, lt-ltb _ _ (k .numbered x e))) (λ (e : k .BlockId x
+      ≡ false). rw e) (decide (k .BlockId x))
 
   pub key-sets : KeySets k
   key-sets = record { start = start-key; end = end-key }
 
-  -- the subset of xs between two keys, and in numbers: the ids of xs whose number is from one key on and below the other
+  -- the subset of xs between two keys, and in numbers: the ids of xs whose number is from one key on and below the
+  -- other
   abbrev pub part : (key? key! : ℕ) → Set → Set
   part key? key! xs = (KeySet k key! ∖ KeySet k key?) ∩ xs
 

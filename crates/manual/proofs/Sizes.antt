@@ -31,7 +31,8 @@ unfolding del times
 deleted y [] h = absurd (omega arith)
 deleted y (z ∷ m) h = go (λ l. deleted y m l) (eqb y z) refl
   where
-    go : (0 < times y m → Deleted y m (del y m)) → (q : Bool) → eqb y z ≡ q → Deleted y (z ∷ m) (cond (eqb y z) m (z ∷ del y m))
+    go : (0 < times y m → Deleted y m (del y m)) → (q : Bool) → eqb y z ≡ q
+        → Deleted y (z ∷ m) (cond (eqb y z) m (z ∷ del y m))
     go ih true e = rw (e, eqb-true y z e) (record { times-same = λ x. refl; shorter = refl })
     go ih false e =
         let d = ih (omega (arith, rw e at h)) in

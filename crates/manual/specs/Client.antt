@@ -85,7 +85,8 @@ module _ (k : Constants) (p : φBasicParams) (s s′ : SS) (id? : ℕ) (data? : 
 -- ---- SetExpiry: give the block a new expiry time
 
 module _ (k : Constants) (p : φBasicParams) (s s′ : SS) (id? expiry? : ℕ) where
-  -- newblock has block's owner, created and data, newblock.expires = max {now, expiry?}, blocks′ = blocks ⊕ {id? ↦ newblock}
+  -- newblock has block's owner, created and data, newblock.expires = max {now, expiry?}, blocks′ = blocks ⊕ {id? ↦
+  -- newblock}
   pub record SetExpiry-success : Type 0 where
     pub block : Block
     pub old : φBlock s id? block

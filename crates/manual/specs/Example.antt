@@ -1,5 +1,5 @@
--- A store of four blocks and what becomes of it, for a walk with operations between its calls (proofs/Example.antt). An id is
--- time · 4 + block number.
+-- A store of four blocks and what becomes of it, for a walk with operations between its calls (proofs/Example.antt). An
+-- id is time · 4 + block number.
 use Prim.Native.Nat.{ℕ, _/_, _%_}
 use mathlib.Core.List.{[]}
 use mathlib.Core.Option.{none}
@@ -46,4 +46,8 @@ third = record { blocks = put (second .blocks) 24 (block 3 6 90); newids = later
 
 -- the manager scavenges at 7: block 1 goes, and block 3 stays
 abbrev pub fourth : SS
-fourth = record { blocks = (KeySet k 4 ∖ KeySet k 0) ∩ expired 7 (third .blocks) ⩤ third .blocks; newids = later k 7 (third .newids) }
+fourth = record {
+  blocks = (KeySet k 4 ∖ KeySet k 0) ∩ expired 7 (third .blocks) ⩤ third .blocks;
+  newids = later k 7
+      (third .newids);
+}

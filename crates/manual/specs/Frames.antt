@@ -1,4 +1,5 @@
--- PRG-62, User Manual, sections 3.1 and 3.2: the framing schemas of the operations on one block and of the key-linked operations.
+-- PRG-62, User Manual, sections 3.1 and 3.2: the framing schemas of the operations on one block and of the key-linked
+-- operations.
 use Prim.Native.Nat.{ℕ, _≤_}
 use mathlib.Core.Path.{_≡_}
 use mathlib.Core.Bool.{_&&_}
@@ -15,7 +16,8 @@ abbrev pub φBlock : SS → (id? : ℕ) → Block → Type 0
 φBlock s id? block = s .blocks id? ≡ some block
 
 module _ (k : Constants) where
-  -- φNewBlock: newblock.owner = clientnum, newblock.created = now, id! ∈ newids. Document 01 makes id! from the block number and now.
+  -- φNewBlock: newblock.owner = clientnum, newblock.created = now, id! ∈ newids. Document 01 makes id! from the block
+  -- number and now.
   pub record φNewBlock (p : φBasicParams) (s : SS) (newblock : Block) (id! : ℕ) : Type 0 where
     pub owner : newblock .owner ≡ p .clientnum
     pub created : newblock .created ≡ p .now

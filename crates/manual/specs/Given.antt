@@ -1,5 +1,5 @@
--- PRG-62, User Manual, section 1: the given sets and the implementation's constants. Identifiers, times, user numbers and keys are numbers;
--- BlockData is a list of bytes.
+-- PRG-62, User Manual, section 1: the given sets and the implementation's constants. Identifiers, times, user numbers
+-- and keys are numbers; BlockData is a list of bytes.
 use Prim.Native.Nat.{ℕ, _<_}
 use mathlib.Core.Path.{_≡_}
 use Rattle.manual.specs.Sets.{Set, _∈_}

@@ -31,9 +31,10 @@ abbrev pub infoOf : Option Block → Option BlockInfo
 infoOf none = none
 infoOf (some b) = some (info b)
 
-module _ (k : Constants) (p : φBasicParams) (s s′ : SS) (key? key! : ℕ) (order : List ℕ) (infoseq! : List BlockInfo) where
-  -- xs = dom blocks, dom order = 1..#subxs, ran order = subxs, infoseq! = λ i : dom order • blocks(order(i)) ↾ BlockInfo;
-  -- infoseq! : BlockInfoSeq, so #infoseq! ≤ MaxInfos
+module _ (k : Constants) (p : φBasicParams) (s s′ : SS) (key? key! : ℕ) (order : List ℕ)
+    (infoseq! : List BlockInfo) where
+  -- xs = dom blocks, dom order = 1..#subxs, ran order = subxs, infoseq! = λ i : dom order • blocks(order(i)) ↾
+  -- BlockInfo; infoseq! : BlockInfoSeq, so #infoseq! ≤ MaxInfos
   pub record Profile-success : Type 0 where
     pub subxs : Set
     pub keys : φKey k key? key! (dom (s .blocks)) subxs

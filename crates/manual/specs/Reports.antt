@@ -3,7 +3,8 @@ use Prim.Native.Nat.{ℕ, _≤_}
 use mathlib.Core.Path.{_≡_}
 use mathlib.Core.Logic.{_⊎_, _≢_}
 use Rattle.manual.specs.Sets.{_∉_, HasSize}
-use Rattle.manual.specs.Given.{Constants, Report, SuccessReport, NoSuchBlockReport, NoSpaceReport, NotOwnerReport, BadKeyReport, NotManagerReport}
+use Rattle.manual.specs.Given.{Constants, Report, SuccessReport, NoSuchBlockReport, NoSpaceReport, NotOwnerReport}
+use Rattle.manual.specs.Given.{BadKeyReport, NotManagerReport}
 use Rattle.manual.specs.State.{Block, SS, φBasicParams, dom, ΞSS}
 use Rattle.manual.specs.Frames.{φBlock, EndKey}
 
@@ -33,7 +34,11 @@ NoSuchBlock p s s′ id? = record { pre = id? ∉ dom (s .blocks); outcome = Fai
 -- NotOwner: φBlock, block.owner ≠ clientnum
 abbrev pub NotOwner : φBasicParams → SS → SS → (id? : ℕ) → Error
 NotOwner p s s′ id? =
-    record { pre = (block : Block) × φBlock s id? block × (block .owner ≢ p .clientnum); outcome = Failed p s s′ NotOwnerReport }
+    record {
+      pre = (block : Block) × φBlock s id? block
+          × (block .owner ≢ p .clientnum);
+      outcome = Failed p s s′ NotOwnerReport;
+    }
 
 module _ (k : Constants) where
   -- NoSpace: #blocks = MaxBlocks

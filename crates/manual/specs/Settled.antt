@@ -1,6 +1,7 @@
--- What is proved of the ten operations (proofs/Settled.antt): the inputs settle the report, the new state and, on success, the outputs, once
--- these choices are fixed: the new id of Create and Replace; the key returned by GetIds, Scavenge and Profile; Profile's order. GetIds' ids
--- are settled as a set. Document 01 fixes all of them, and the order of the ids.
+-- What is proved of the ten operations (proofs/Settled.antt): the inputs settle the report, the new state and, on
+-- success, the outputs, once these choices are fixed: the new id of Create and Replace; the key returned by GetIds,
+-- Scavenge and Profile; Profile's order. GetIds' ids are settled as a set. Document 01 fixes all of them, and the order
+-- of the ids.
 use Prim.Native.Nat.{ℕ}
 use mathlib.Core.Path.{_≡_}
 use mathlib.Core.List.{List}
@@ -18,7 +19,8 @@ pub record Same (r r′ : Report) (s′ s″ : SS) (outputs : Type 0) : Type 0 w
   pub state : ΞSS s′ s″
   pub results : r ≡ SuccessReport → outputs
 
--- an operation, as a relation of the basic parameters, the states before and after, and the outputs, has one outcome for one call
+-- an operation, as a relation of the basic parameters, the states before and after, and the outputs, has one outcome
+-- for one call
 abbrev pub Settles : {A : Type 0} → (φBasicParams → SS → SS → A → Type 0) → (A → A → Type 0) → Type 0
 Settles {A} operation alike =
     (clientnum now : ℕ) (r r′ : Report) (s s′ s″ : SS) (a a′ : A)
@@ -27,14 +29,18 @@ Settles {A} operation alike =
     → Same r r′ s′ s″ (alike a a′)
 
 pub record Settled (k : Constants) : Type 0 where
-  pub create : (expiry? : ℕ) (data? : List ℕ) (id! : ℕ) → Settles {A = Unit {0}} (λ p s s′ a. Create k p s s′ expiry? data? id!) _≡_
+  pub create : (expiry? : ℕ) (data? : List ℕ) (id! : ℕ)
+      → Settles {A = Unit {0}} (λ p s s′ a. Create k p s s′ expiry? data? id!) _≡_
   pub read : (id? : ℕ) → Settles {A = List ℕ} (λ p s s′ data!. Read p s s′ id? data!) _≡_
-  pub status : (id? : ℕ) → Settles {A = BlockInfo} (λ p s s′ a. Status p s s′ id? (a .owner) (a .created) (a .expires)) _≡_
+  pub status : (id? : ℕ) → Settles {A = BlockInfo}
+      (λ p s s′ a. Status p s s′ id? (a .owner) (a .created) (a .expires)) _≡_
   pub destroy : (id? : ℕ) → Settles {A = Unit {0}} (λ p s s′ a. Destroy k p s s′ id?) _≡_
-  pub replace : (id? : ℕ) (data? : List ℕ) (id! : ℕ) → Settles {A = Unit {0}} (λ p s s′ a. Replace k p s s′ id? data? id!) _≡_
+  pub replace : (id? : ℕ) (data? : List ℕ) (id! : ℕ)
+      → Settles {A = Unit {0}} (λ p s s′ a. Replace k p s s′ id? data? id!) _≡_
   pub setExpiry : (id? expiry? : ℕ) → Settles {A = Unit {0}} (λ p s s′ a. SetExpiry k p s s′ id? expiry?) _≡_
   pub getIds : (key? count? key! : ℕ)
-      → Settles {A = List ℕ} (λ p s s′ idset!. GetIds k p s s′ key? count? key! idset!) (λ l m. (x : ℕ) → times x l ≡ times x m)
+      → Settles {A = List ℕ} (λ p s s′ idset!. GetIds k p s s′ key? count? key! idset!) (λ l m. (x : ℕ) → times x l
+      ≡ times x m)
   pub getCount : Settles {A = ℕ} (λ p s s′ count!. GetCount p s s′ count!) _≡_
   pub scavenge : (key? key! : ℕ) → Settles {A = ℕ} (λ p s s′ count!. Scavenge k p s s′ key? key! count!) _≡_
   pub profile : (key? key! : ℕ) (order : List ℕ)

@@ -1,4 +1,5 @@
--- PRG-62, User Manual, sections 2 and 3: blocks, the state SS with its invariants, its start, and the general schemas ΔSS and ΞSS.
+-- PRG-62, User Manual, sections 2 and 3: blocks, the state SS with its invariants, its start, and the general schemas
+-- ΔSS and ΞSS.
 use Prim.Native.Nat.{ℕ, _≤_}
 use mathlib.Core.Bool.{Bool, true, false, cond, _&&_}
 use mathlib.Core.List.{List}
@@ -26,8 +27,8 @@ pub record Block : Type 0 where
 abbrev pub info : Block → BlockInfo
 info b = record { owner = b .owner; created = b .created; expires = b .expires }
 
--- BlockInfo's line created ≤ expires. It is no part of SS here: PRG-62's Replace does not keep it, and document 01 follows PRG-62 until
--- request W3.
+-- BlockInfo's line created ≤ expires. It is no part of SS here: PRG-62's Replace does not keep it, and document 01
+-- follows PRG-62 until request W3.
 abbrev pub Ordered : Block → Type 0
 Ordered b = b .created ≤ b .expires
 
@@ -100,12 +101,13 @@ module _ (k : Constants) where
   abbrev pub later : ℕ → Set → Set
   later t X x = X x && ltb t (k .time x)
 
-  -- document 01's reading of the set of new ids: those whose time is above the clock (and whose block number is below N, as all of BlockId)
+  -- document 01's reading of the set of new ids: those whose time is above the clock (and whose block number is below
+  -- N, as all of BlockId)
   abbrev pub NewIds : (clock : ℕ) → Set
   NewIds clock = later clock (k .BlockId)
 
-  -- ΔSS. PRG-62's line is newids′ = newids \ dom blocks′; document 01 puts its own in the place of it: those whose time is above the clock,
-  -- which becomes now. What it keeps of PRG-62's is in Kept.antt.
+  -- ΔSS. PRG-62's line is newids′ = newids \ dom blocks′; document 01 puts its own in the place of it: those whose time
+  -- is above the clock, which becomes now. What it keeps of PRG-62's is in Kept.antt.
   abbrev pub ΔSS : φBasicParams → SS → SS → Type 0
   ΔSS p s s′ = s′ .newids ≈ later (p .now) (s .newids)
 

@@ -2,7 +2,8 @@
 use Prim.Native.Nat.{ℕ}
 use mathlib.Core.Path.{_≡_}
 use lib.IntN.{ℤ, pos, _+ℤ_, _-ℤ_, _*ℤ_}
-use Rattle.manual.specs.Given.{Op, CreateOp, ReadOp, StatusOp, DestroyOp, ReplaceOp, SetExpiryOp, GetIdsOp, GetCountOp, ScavengeOp, ProfileOp}
+use Rattle.manual.specs.Given.{Op, CreateOp, ReadOp, StatusOp, DestroyOp, ReplaceOp, SetExpiryOp, GetIdsOp}
+use Rattle.manual.specs.Given.{GetCountOp, ScavengeOp, ProfileOp}
 use Rattle.manual.specs.State.{BlockInfo, φBasicParams}
 use Rattle.manual.specs.Reports.{Success}
 
@@ -32,17 +33,20 @@ module _ (t : Costs) where
   abbrev pub BlockTariff : (created expires : ℕ) → ℤ
   BlockTariff created expires = t .BlockCost *ℤ (pos expires -ℤ pos created)
 
-  -- SSTariff's lines, one for each operation: block is the stored block that the operation is given, block′ the one that it stores
+  -- SSTariff's lines, one for each operation: block is the stored block that the operation is given, block′ the one
+  -- that it stores
   abbrev pub costOf : Op → (now : ℕ) → (block block′ : BlockInfo) → ℤ
   costOf CreateOp now block block′ = t .CreateCost +ℤ BlockTariff (block′ .created) (block′ .expires)
   costOf ReadOp now block block′ = t .ReadCost
   costOf StatusOp now block block′ = t .StatusCost
-  costOf DestroyOp now block block′ = t .DestroyCost -ℤ BlockTariff (block .created) (block .expires) +ℤ BlockTariff (block .created) now
+  costOf DestroyOp now block block′ = t .DestroyCost -ℤ BlockTariff (block .created) (block .expires) +ℤ BlockTariff
+      (block .created) now
   costOf ReplaceOp now block block′ =
       t .ReplaceCost -ℤ BlockTariff (block .created) (block .expires) +ℤ BlockTariff (block .created) now
       +ℤ BlockTariff (block′ .created) (block′ .expires)
   costOf SetExpiryOp now block block′ =
-      t .SetExpiryCost -ℤ BlockTariff (block .created) (block .expires) +ℤ BlockTariff (block′ .created) (block′ .expires)
+      t .SetExpiryCost -ℤ BlockTariff (block .created) (block .expires) +ℤ BlockTariff (block′ .created)
+      (block′ .expires)
   costOf GetIdsOp now block block′ = t .GetIdsCost
   costOf GetCountOp now block block′ = t .GetCountCost
   costOf ScavengeOp now block block′ = t .ScavengeCost

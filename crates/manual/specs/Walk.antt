@@ -1,6 +1,6 @@
--- A walk by keys (PRG-62, User Manual, section 3.2): a call with the start key, then calls each with the key that the one before returned,
--- until the end key comes; and what is to hold of it. What is listed is any set that a store settles, and between two calls anything at
--- all may happen to the store.
+-- A walk by keys (PRG-62, User Manual, section 3.2): a call with the start key, then calls each with the key that the
+-- one before returned, until the end key comes; and what is to hold of it. What is listed is any set that a store
+-- settles, and between two calls anything at all may happen to the store.
 use Prim.Native.Nat.{ℕ, _+_, _≤_, _<_}
 use mathlib.Core.Path.{_≡_}
 use mathlib.Core.List.{List, [], _∷_, _++_}
@@ -17,10 +17,11 @@ pub record Call (k : Constants) (xs : Set) (key? key! passed : ℕ) (ids : List 
   pub names : Lists ids subxs
   pub distance : key? + passed ≡ key!
 
--- a walk that stands at a key, over the store s: its last call, which returns the end key; or a call that returns another key, then stores
--- made by anyone, the last of them s′, and the rest of the walk over s′
+-- a walk that stands at a key, over the store s: its last call, which returns the end key; or a call that returns
+-- another key, then stores made by anyone, the last of them s′, and the rest of the walk over s′
 pub data Walk (k : Constants) {S : Type 0} (listed : S → Set) : S → ℕ → Type 0 where
-  last : {s : S} {key? : ℕ} (passed : ℕ) (ids : List ℕ) → Call k (listed s) key? (EndKey k) passed ids → Walk k listed s key?
+  last : {s : S} {key? : ℕ} (passed : ℕ) (ids : List ℕ) → Call k (listed s) key? (EndKey k) passed ids
+      → Walk k listed s key?
   more : {s : S} {key? : ℕ} (passed : ℕ) (ids : List ℕ) (key! : ℕ) → Call k (listed s) key? key! passed ids
       → (between : List S) (s′ : S) → Walk k listed s′ key! → Walk k listed s key?
 

@@ -3,8 +3,10 @@ use Prim.Native.Nat.{ℕ}
 use mathlib.Core.List.{List, [], _∷_}
 use mathlib.Core.Option.{Option, none, some}
 use lib.IntN.{ℤ}
+use Rattle.word.specs.Word.{blank}
 use Rattle.kinds.specs.declared.Receipt.{Receipt}
 use Rattle.kinds.specs.declared.Report.{Report}
+use Rattle.tariff.specs.Charges.{errorCharge}
 use Rattle.tariff.specs.declared.Tariff.{Tariff}
 use Rattle.promise.specs.Refusals.{Row}
 use Rattle.promise.specs.Create.{createRows, createAnswer, createImage}
@@ -56,6 +58,19 @@ keyReceived (GetCount client) = none
 keyReceived (Scavenge client key time) = some key
 keyReceived (Profile client key buffer) = some key
 
+-- how many results an operation has, besides a key
+abbrev pub resultsOf : Call → ℕ
+resultsOf (Create client expiry bytes time) = 1
+resultsOf (Read client id buffer) = 0
+resultsOf (Status client id) = 3
+resultsOf (Destroy client id time) = 0
+resultsOf (Replace client id bytes time) = 1
+resultsOf (SetExpiry client id expiry time) = 0
+resultsOf (GetIds client key count ids) = 1
+resultsOf (GetCount client) = 1
+resultsOf (Scavenge client key time) = 1
+resultsOf (Profile client key buffer) = 1
+
 -- the rows of the table that a call can be refused by, in the order they are tested
 unfoldable pub rowsOf : Call → List ℕ → List Row
 rowsOf (Create client expiry bytes time) img = createRows img client expiry bytes time
@@ -69,7 +84,8 @@ rowsOf (GetCount client) img = getCountRows img client
 rowsOf (Scavenge client key time) img = scavengeRows img client key time
 rowsOf (Profile client key buffer) img = profileRows img client key buffer
 
--- report and charge; the results in PRG-62's order but for a key; the key that a key call gives; the image and the buffer after
+-- report and charge; the results in PRG-62's order but for a key; the key that a key call gives; the image and the
+-- buffer after
 pub record Outcome : Type 0 where
   pub report : Report
   pub charge : ℤ
@@ -77,6 +93,18 @@ pub record Outcome : Type 0 where
   pub key : Option ℕ
   pub image : List ℕ
   pub buffer : List ℕ
+
+-- a refusal returns zeros, the key as received, and the error price; no lent byte changes
+abbrev pub refusedOutcome : Tariff → Call → List ℕ → Report → Outcome
+refusedOutcome t c img r =
+    record {
+      report = r;
+      charge = errorCharge t;
+      results = blank (resultsOf c);
+      key = keyReceived c;
+      image = img;
+      buffer = lent c;
+    }
 
 abbrev outcomeOf : Receipt → List ℕ → Option ℕ → List ℕ → List ℕ → Outcome
 outcomeOf r results key image buffer =
@@ -97,7 +125,8 @@ outcome t (Replace client id bytes time) img =
     let a = replaceAnswer t img client id bytes time in
     outcomeOf (a .receipt) (a .id .0 ∷ []) none (replaceImage img client id bytes time) []
 outcome t (SetExpiry client id expiry time) img =
-    outcomeOf (setExpiryAnswer t img client id expiry time .receipt) [] none (setExpiryImage img client id expiry time) []
+    outcomeOf (setExpiryAnswer t img client id expiry time .receipt) [] none
+    (setExpiryImage img client id expiry time) []
 outcome t (GetIds client key count ids) img =
     let a = getIdsAnswer t img client key count ids in
     outcomeOf (a .receipt) (a .entries ∷ []) (some (a .key)) img (getIdsBuffer img client key count ids)

@@ -1,5 +1,5 @@
--- Document 01, Create: it takes the lowest free block. Owner is the client, created is now, expires is the later of now and the asked
--- expiry.
+-- Document 01, Create: it takes the lowest free block. Owner is the client, created is now, expires is the later of now
+-- and the asked expiry.
 use Prim.Native.Nat.{ℕ, _+_}
 use mathlib.Core.Path.{_≡_}
 use mathlib.Core.Bool.{Bool, not, _&&_, _||_}
@@ -11,7 +11,8 @@ use Rattle.word.specs.Write.{Write, puts}
 use Rattle.kinds.specs.Kinds.{ident}
 use Rattle.kinds.specs.declared.CreateAnswer.{CreateAnswer}
 use Rattle.kinds.specs.declared.Report.{Report}
-use Rattle.kinds.specs.declared.Report.the-variants.{Success, BadImage, BadUser, BadTime, ClockNotLater, BadRoom, Damaged, NoSpace}
+use Rattle.kinds.specs.declared.Report.the-variants.{Success, BadImage, BadUser, BadTime, ClockNotLater, BadRoom}
+use Rattle.kinds.specs.declared.Report.the-variants.{Damaged, NoSpace}
 use Rattle.ident.specs.Ident.{nullId, idOf}
 use Rattle.tariff.specs.Charges.{createCharge}
 use Rattle.tariff.specs.declared.Tariff.{Tariff}
@@ -21,7 +22,8 @@ use Rattle.promise.specs.Trailer.{nOf, clockSet}
 use Rattle.promise.specs.Header.{laterOf, headerBytes}
 use Rattle.promise.specs.Map.{free, good, bitTaken}
 use Rattle.promise.specs.Counts.{countOf, countSet}
-use Rattle.promise.specs.Refusals.{Row, row, lowest, succeeds, badImage, badUser, badNow, badExpiry, notLater, notABlock, receipt, refusal}
+use Rattle.promise.specs.Refusals.{Row, row, lowest, succeeds, badImage, badUser, badNow, badExpiry, notLater}
+use Rattle.promise.specs.Refusals.{notABlock, receipt, refusal}
 
 -- the lowest free block; N where there is none
 unfoldable pub lowestFree : List ℕ → ℕ
@@ -64,15 +66,21 @@ createWrites img client expiry bytes time =
 
 unfoldable pub createImage : List ℕ → (client expiry : ℕ) → List ℕ → (time : ℕ) → List ℕ
 createImage img client expiry bytes time =
-    when (succeeds (createReport img client expiry bytes time)) (puts img (createWrites img client expiry bytes time)) img
+    when (succeeds (createReport img client expiry bytes time))
+    (puts img (createWrites img client expiry bytes time)) img
 
 unfoldable pub createAnswer : Tariff → List ℕ → (client expiry : ℕ) → List ℕ → (time : ℕ) → CreateAnswer
 createAnswer t img client expiry bytes time =
     let r : Report = createReport img client expiry bytes time in
     when (succeeds r)
-    (record { receipt = receipt Success (createCharge t time (laterOf time expiry)); id = ident (idOf time (lowestFree img)) })
+    (record {
+      receipt = receipt Success (createCharge t time (laterOf time expiry));
+      id = ident
+          (idOf time (lowestFree img));
+    })
     (record { receipt = refusal t r; id = ident nullId })
 
-pub record CreatePromise (t : Tariff) (img : List ℕ) (client expiry : ℕ) (bytes : List ℕ) (time : ℕ) (a : CreateAnswer) (img′ : List ℕ) : Type 0 where
+pub record CreatePromise (t : Tariff) (img : List ℕ) (client expiry : ℕ) (bytes : List ℕ) (time : ℕ) (a : CreateAnswer)
+    (img′ : List ℕ) : Type 0 where
   pub answer : a ≡ createAnswer t img client expiry bytes time
   pub image : img′ ≡ createImage img client expiry bytes time

@@ -8,21 +8,24 @@ use Rattle.plain.specs.Tests.{when}
 use Rattle.word.specs.Write.{Write, puts}
 use Rattle.kinds.specs.declared.DestroyAnswer.{DestroyAnswer}
 use Rattle.kinds.specs.declared.Report.{Report}
-use Rattle.kinds.specs.declared.Report.the-variants.{Success, BadImage, BadUser, BadTime, ClockNotLater, Damaged, NoSuchBlock, NotOwner}
+use Rattle.kinds.specs.declared.Report.the-variants.{Success, BadImage, BadUser, BadTime, ClockNotLater, Damaged}
+use Rattle.kinds.specs.declared.Report.the-variants.{NoSuchBlock, NotOwner}
 use Rattle.tariff.specs.Charges.{destroyCharge}
 use Rattle.tariff.specs.declared.Tariff.{Tariff}
 use Rattle.promise.specs.Trailer.{nOf, clockSet}
 use Rattle.promise.specs.Header.{headerZeroed, ownerOf, createdOf, expiresOf}
 use Rattle.promise.specs.Map.{bitFreed}
 use Rattle.promise.specs.Counts.{countOf, countSet}
-use Rattle.promise.specs.Refusals.{Row, row, lowest, succeeds, badImage, badUser, badNow, notLater, receipt, refusal}
+use Rattle.promise.specs.Refusals.{Row, row, lowest, succeeds, badImage, badUser, badNow, notLater, receipt}
+use Rattle.promise.specs.Refusals.{refusal}
 use Rattle.promise.specs.Lookup.{leadsTo, headerFor, lookupDamaged, noSuchBlock, notOwner}
 
 -- 9: also where neither 10 nor 11 applies and the owner's count is 0
 unfoldable pub destroyDamaged : List ℕ → (client id : ℕ) → Bool
 destroyDamaged img client id =
     lookupDamaged img id
-    || (not (noSuchBlock img id) && not (notOwner img client id) && eqb (countOf (nOf img) img (ownerOf (headerFor img id))) 0)
+    || (not (noSuchBlock img id) && not (notOwner img client id)
+    && eqb (countOf (nOf img) img (ownerOf (headerFor img id))) 0)
 
 unfoldable pub destroyRows : List ℕ → (client id time : ℕ) → List Row
 destroyRows img client id time =
@@ -50,7 +53,8 @@ destroyWrites img id time =
     ∷ []
 
 unfoldable pub destroyImage : List ℕ → (client id time : ℕ) → List ℕ
-destroyImage img client id time = when (succeeds (destroyReport img client id time)) (puts img (destroyWrites img id time)) img
+destroyImage img client id time = when (succeeds (destroyReport img client id time))
+    (puts img (destroyWrites img id time)) img
 
 unfoldable pub destroyAnswer : Tariff → List ℕ → (client id time : ℕ) → DestroyAnswer
 destroyAnswer t img client id time =
@@ -60,6 +64,7 @@ destroyAnswer t img client id time =
     (record { receipt = receipt Success (destroyCharge t (createdOf h) (expiresOf h) time) })
     (record { receipt = refusal t r })
 
-pub record DestroyPromise (t : Tariff) (img : List ℕ) (client id time : ℕ) (a : DestroyAnswer) (img′ : List ℕ) : Type 0 where
+pub record DestroyPromise (t : Tariff) (img : List ℕ) (client id time : ℕ) (a : DestroyAnswer)
+    (img′ : List ℕ) : Type 0 where
   pub answer : a ≡ destroyAnswer t img client id time
   pub image : img′ ≡ destroyImage img client id time

@@ -1,5 +1,5 @@
--- Document 01, GetIds: it visits headers from the key upward, names the client's ids among them in rising block number, and also stops
--- as soon as it has named the asked count.
+-- Document 01, GetIds: it visits headers from the key upward, names the client's ids among them in rising block number,
+-- and also stops as soon as it has named the asked count.
 use Prim.Native.Nat.{ℕ, _+_, _*_}
 use mathlib.Core.Path.{_≡_}
 use mathlib.Core.Bool.{not}
@@ -13,16 +13,17 @@ use Rattle.kinds.specs.declared.Report.{Report}
 use Rattle.kinds.specs.declared.Report.the-variants.{Success, BadImage, BadUser, BadKey, BadCount, BadRoom, Damaged}
 use Rattle.tariff.specs.Charges.{getIdsCharge}
 use Rattle.tariff.specs.declared.Tariff.{Tariff}
-use Rattle.run.specs.Run.{picked, visits, rows}
+use Rattle.run.specs.Run.{picked, stride, rows}
 use Rattle.promise.specs.Trailer.{nOf}
 use Rattle.promise.specs.Header.{headerOf, idIn}
 use Rattle.promise.specs.Counts.{ownedBy}
-use Rattle.promise.specs.Refusals.{Row, row, lowest, succeeds, badImage, badUser, badKey, badCount, tooSmall, receipt, refusal}
-use Rattle.promise.specs.Keys.{reach, keyAt, visitedGood}
+use Rattle.promise.specs.Refusals.{Row, row, lowest, succeeds, badImage, badUser, badKey, badCount, tooSmall}
+use Rattle.promise.specs.Refusals.{receipt, refusal}
+use Rattle.promise.specs.Keys.{keyAt, visitedGood}
 
 -- how many headers are visited
 unfoldable pub idsVisited : List ℕ → (client key count : ℕ) → ℕ
-idsVisited img client key count = visits (ownedBy img client) (reach img key) count key
+idsVisited img client key count = stride (ownedBy img client) (nOf img) count key
 
 -- the block numbers of the ids that are named
 unfoldable pub idsNamed : List ℕ → (client key count : ℕ) → List ℕ
@@ -59,8 +60,10 @@ getIdsAnswer t img client key count ids =
 -- bytes of the buffer after the last written entry keep their values
 unfoldable pub getIdsBuffer : List ℕ → (client key count : ℕ) → (ids : List ℕ) → List ℕ
 getIdsBuffer img client key count ids =
-    when (succeeds (getIdsReport img client key count ids)) (over ids 0 (rows (idRow img) (idsNamed img client key count))) ids
+    when (succeeds (getIdsReport img client key count ids))
+    (over ids 0 (rows (idRow img) (idsNamed img client key count))) ids
 
-pub record GetIdsPromise (t : Tariff) (img : List ℕ) (client key count : ℕ) (ids : List ℕ) (a : GetIdsAnswer) (ids′ : List ℕ) : Type 0 where
+pub record GetIdsPromise (t : Tariff) (img : List ℕ) (client key count : ℕ) (ids : List ℕ) (a : GetIdsAnswer)
+    (ids′ : List ℕ) : Type 0 where
   pub answer : a ≡ getIdsAnswer t img client key count ids
   pub given : ids′ ≡ getIdsBuffer img client key count ids

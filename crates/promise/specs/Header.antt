@@ -43,10 +43,11 @@ laterOf time expiry = max time expiry
 -- the 64 bytes of a used block's header
 unfoldable pub headerBytes : (owner id created expires : ℕ) (tag : List ℕ) → List ℕ
 headerBytes owner id created expires tag =
-    bytesOf 1 1 ++ bytesOf 1 owner ++ blank 6 ++ bytesOf 8 id ++ bytesOf 8 created ++ bytesOf 8 expires ++ tag ++ blank 16
+    bytesOf 1 1 ++ bytesOf 1 owner ++ blank 6 ++ bytesOf 8 id ++ bytesOf 8 created ++ bytesOf 8 expires ++ tag
+    ++ blank 16
 
--- used is 1, the zero bytes are zero, the owner is at most 63, created is from 1 to the clock, expires is from 1 to 2^40 - 1, and the
--- id is the one made from b and created
+-- used is 1, the zero bytes are zero, the owner is at most 63, created is from 1 to the clock, expires is from 1 to
+-- 2^40 - 1, and the id is the one made from b and created
 unfoldable pub usedRight : (clock b : ℕ) (h : List ℕ) → Bool
 usedRight clock b h =
     all

@@ -7,7 +7,8 @@ use lib.Dec.{eqb, leb}
 unfoldable pub numberRight : ℕ → Bool
 numberRight n = eqb (n % 8) 0 && leb 8 n && leb n 4096
 
--- in order, in disk blocks of 512 bytes: N/8 header blocks, one map block, one counts block, N data blocks, one trailer block
+-- in order, in disk blocks of 512 bytes: N/8 header blocks, one map block, one counts block, N data blocks, one trailer
+-- block
 abbrev pub headerAt : ℕ → ℕ
 headerAt b = 64 * b
 

@@ -20,11 +20,3 @@ pub mod Scavenge
 pub mod Profile
 pub mod Walk
 pub mod Call
-pub mod TrailerLaws
-pub mod HeaderLaws
-pub mod RefusalLaws
-pub mod KeyLaws
-pub mod CallLaws
-pub mod Laws
-pub mod FreshLaws
-pub mod ScavengeLaws

@@ -15,7 +15,8 @@ use Rattle.tariff.specs.declared.Tariff.{Tariff}
 use Rattle.run.specs.Run.{picked, rows}
 use Rattle.promise.specs.Trailer.{nOf}
 use Rattle.promise.specs.Header.{headerOf, isUsed, ownerOf, createdOf, expiresOf}
-use Rattle.promise.specs.Refusals.{Row, row, lowest, succeeds, badImage, badUser, notManager, badKey, tooSmall, receipt, refusal}
+use Rattle.promise.specs.Refusals.{Row, row, lowest, succeeds, badImage, badUser, notManager, badKey, tooSmall}
+use Rattle.promise.specs.Refusals.{receipt, refusal}
 use Rattle.promise.specs.Keys.{reach, keyAt, visitedGood}
 
 -- the used blocks among the headers visited
@@ -24,7 +25,8 @@ profiled img key = picked (λ b. isUsed (headerOf img b)) key (reach img key)
 
 -- an entry, 24 bytes
 unfoldable pub profileRow : List ℕ → (b : ℕ) → List ℕ
-profileRow img b = let h : List ℕ = headerOf img b in bytesOf 8 (ownerOf h) ++ bytesOf 8 (createdOf h) ++ bytesOf 8 (expiresOf h)
+profileRow img b = let h : List ℕ = headerOf img b in bytesOf 8 (ownerOf h) ++ bytesOf 8 (createdOf h)
+    ++ bytesOf 8 (expiresOf h)
 
 unfoldable pub profileRows : List ℕ → (client key : ℕ) → (buffer : List ℕ) → List Row
 profileRows img client key buffer =
@@ -43,14 +45,21 @@ unfoldable pub profileAnswer : Tariff → List ℕ → (client key : ℕ) → (b
 profileAnswer t img client key buffer =
     let r : Report = profileReport img client key buffer in
     when (succeeds r)
-    (record { receipt = receipt Success (profileCharge t); key = keyAt (nOf img) (key + reach img key); entries = length (profiled img key) })
+    (record {
+      receipt = receipt Success (profileCharge t);
+      key = keyAt (nOf img) (key + reach img key);
+      entries = length
+          (profiled img key);
+    })
     (record { receipt = refusal t r; key = key; entries = 0 })
 
 -- bytes of the buffer after the last written entry keep their values
 unfoldable pub profileBuffer : List ℕ → (client key : ℕ) → (buffer : List ℕ) → List ℕ
 profileBuffer img client key buffer =
-    when (succeeds (profileReport img client key buffer)) (over buffer 0 (rows (profileRow img) (profiled img key))) buffer
+    when (succeeds (profileReport img client key buffer))
+    (over buffer 0 (rows (profileRow img) (profiled img key))) buffer
 
-pub record ProfilePromise (t : Tariff) (img : List ℕ) (client key : ℕ) (buffer : List ℕ) (a : ProfileAnswer) (buffer′ : List ℕ) : Type 0 where
+pub record ProfilePromise (t : Tariff) (img : List ℕ) (client key : ℕ) (buffer : List ℕ) (a : ProfileAnswer)
+    (buffer′ : List ℕ) : Type 0 where
   pub answer : a ≡ profileAnswer t img client key buffer
   pub given : buffer′ ≡ profileBuffer img client key buffer

@@ -34,6 +34,7 @@ unfoldable pub readBuffer : List ℕ → (client id : ℕ) → (buffer : List �
 readBuffer img client id buffer =
     when (succeeds (readReport img client id buffer)) (serviceBlock (nOf img) img (leadsTo id)) buffer
 
-pub record ReadPromise (t : Tariff) (img : List ℕ) (client id : ℕ) (buffer : List ℕ) (a : ReadAnswer) (buffer′ : List ℕ) : Type 0 where
+pub record ReadPromise (t : Tariff) (img : List ℕ) (client id : ℕ) (buffer : List ℕ) (a : ReadAnswer)
+    (buffer′ : List ℕ) : Type 0 where
   pub answer : a ≡ readAnswer t img client id buffer
   pub given : buffer′ ≡ readBuffer img client id buffer

@@ -1,6 +1,8 @@
--- Document 01, Reports, in the order they are tested: the rows that operations share, and the lowest number that applies.
-use Prim.Native.Nat.{ℕ}
-use mathlib.Core.Bool.{Bool, not, _||_}
+-- Document 01, Reports, in the order they are tested: the rows that operations share, and the lowest number that
+-- applies.
+use Prim.Native.Nat.{ℕ, _<_}
+use mathlib.Core.Path.{_≡_}
+use mathlib.Core.Bool.{Bool, true, false, not, _&&_, _||_}
 use mathlib.Core.List.{List, [], _∷_}
 use lib.Dec.{eqb, leb, ltb}
 use lib.IntN.{ℤ}
@@ -31,6 +33,16 @@ lowest (r ∷ rs) = when (r .applies) (r .report) (lowest rs)
 
 abbrev pub succeeds : Report → Bool
 succeeds r = eqb (numberOf r) 0
+
+-- what that says of a report: no lower row applies, and it is a row that applies, or Success where no row does
+unfoldable pub applies : List Row → ℕ → Bool
+applies [] k = false
+applies (r ∷ rs) k = (r .applies && eqb (numberOf (r .report)) k) || applies rs k
+
+pub record Given (rows : List Row) (r : Report) : Type 0 where
+  pub first : (k : ℕ) → k < numberOf r → applies rows k ≡ false
+  pub refused : 0 < numberOf r → applies rows (numberOf r) ≡ true
+  pub clear : numberOf r ≡ 0 → (k : ℕ) → applies rows k ≡ false
 
 -- 1: length or trailer wrong
 abbrev pub badImage : List ℕ → Bool

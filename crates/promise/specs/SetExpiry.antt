@@ -8,13 +8,15 @@ use Rattle.word.specs.Word.{bytesOf}
 use Rattle.word.specs.Write.{Write, puts}
 use Rattle.kinds.specs.declared.SetExpiryAnswer.{SetExpiryAnswer}
 use Rattle.kinds.specs.declared.Report.{Report}
-use Rattle.kinds.specs.declared.Report.the-variants.{Success, BadImage, BadUser, BadTime, ClockNotLater, Damaged, NoSuchBlock, NotOwner}
+use Rattle.kinds.specs.declared.Report.the-variants.{Success, BadImage, BadUser, BadTime, ClockNotLater, Damaged}
+use Rattle.kinds.specs.declared.Report.the-variants.{NoSuchBlock, NotOwner}
 use Rattle.tariff.specs.Charges.{setExpiryCharge}
 use Rattle.tariff.specs.declared.Tariff.{Tariff}
 use Rattle.promise.specs.Layout.{headerAt}
 use Rattle.promise.specs.Trailer.{nOf, clockSet}
 use Rattle.promise.specs.Header.{createdOf, expiresOf, laterOf}
-use Rattle.promise.specs.Refusals.{Row, row, lowest, succeeds, badImage, badUser, badNow, badExpiry, notLater, receipt, refusal}
+use Rattle.promise.specs.Refusals.{Row, row, lowest, succeeds, badImage, badUser, badNow, badExpiry, notLater}
+use Rattle.promise.specs.Refusals.{receipt, refusal}
 use Rattle.promise.specs.Lookup.{leadsTo, headerFor, lookupDamaged, noSuchBlock, notOwner}
 
 unfoldable pub setExpiryRows : List ℕ → (client id expiry time : ℕ) → List Row
@@ -47,9 +49,13 @@ setExpiryAnswer t img client id expiry time =
     let r : Report = setExpiryReport img client id expiry time in
     let h : List ℕ = headerFor img id in
     when (succeeds r)
-    (record { receipt = receipt Success (setExpiryCharge t (createdOf h) (expiresOf h) (createdOf h) (laterOf time expiry)) })
+    (record {
+      receipt = receipt Success
+          (setExpiryCharge t (createdOf h) (expiresOf h) (createdOf h) (laterOf time expiry));
+    })
     (record { receipt = refusal t r })
 
-pub record SetExpiryPromise (t : Tariff) (img : List ℕ) (client id expiry time : ℕ) (a : SetExpiryAnswer) (img′ : List ℕ) : Type 0 where
+pub record SetExpiryPromise (t : Tariff) (img : List ℕ) (client id expiry time : ℕ) (a : SetExpiryAnswer)
+    (img′ : List ℕ) : Type 0 where
   pub answer : a ≡ setExpiryAnswer t img client id expiry time
   pub image : img′ ≡ setExpiryImage img client id expiry time

@@ -10,13 +10,15 @@ use Rattle.promise.specs.Trailer.{nOf, trailerRight}
 use Rattle.promise.specs.Map.{spareZero, good}
 use Rattle.promise.specs.Counts.{countsOf, countOf, owners, owned}
 
--- the trailer is right, all headers are good, the map's spare bits are 0 and each count is the number of used headers with that owner
+-- the trailer is right, all headers are good, the map's spare bits are 0 and each count is the number of used headers
+-- with that owner
 unfoldable pub soundImage : List ℕ → Bool
 soundImage img =
     let n : ℕ = nOf img in
     let counts : List ℕ = countsOf n img in
     let os : List ℕ = owners n img in
-    trailerRight img && allOf (good img) 0 n && spareZero n img && allOf (λ u. eqb (wordAt 8 counts (8 * u)) (times u os)) 0 64
+    trailerRight img && allOf (good img) 0 n && spareZero n img
+    && allOf (λ u. eqb (wordAt 8 counts (8 * u)) (times u os)) 0 64
 
 pub record Sound (img : List ℕ) : Type 0 where
   pub trailer : trailerRight img ≡ true

@@ -29,7 +29,12 @@ statusAnswer t img client id =
     let r : Report = statusReport img client id in
     let h : List ℕ = headerFor img id in
     when (succeeds r)
-    (record { receipt = receipt Success (statusCharge t); owner = user (ownerOf h); created = tick (createdOf h); expires = tick (expiresOf h) })
+    (record {
+      receipt = receipt Success (statusCharge t);
+      owner = user (ownerOf h);
+      created = tick (createdOf h);
+      expires = tick (expiresOf h);
+    })
     (record { receipt = refusal t r; owner = user 0; created = tick 0; expires = tick 0 })
 
 pub record StatusPromise (t : Tariff) (img : List ℕ) (client id : ℕ) (a : StatusAnswer) : Type 0 where

@@ -37,8 +37,8 @@ backToData n = n
 abbrev pub mark : List ℕ
 mark = 0x50 ∷ 0x52 ∷ 0x36 ∷ 0x32 ∷ []
 
--- the 512 bytes t are right as the trailer of an image of `size` bytes: N is right and the length agrees with it; at 4, 8, 12, 16 the
--- distances; the clock is in range; the mark; and all other bytes are zero
+-- the 512 bytes t are right as the trailer of an image of `size` bytes: N is right and the length agrees with it; at 4,
+-- 8, 12, 16 the distances; the clock is in range; the mark; and all other bytes are zero
 unfoldable pub rightTrailer : (size : ℕ) (t : List ℕ) → Bool
 rightTrailer size t =
     let n : ℕ = wordAt 4 t 0 in
@@ -62,7 +62,8 @@ trailerRight img = rightTrailer (length img) (trailerOf img)
 -- the bytes of a right trailer
 unfoldable pub trailerBytes : (n clock : ℕ) → List ℕ
 trailerBytes n clock =
-    bytesOf 4 n ++ bytesOf 4 (backToHeaders n) ++ bytesOf 4 (backToMap n) ++ bytesOf 4 (backToCounts n) ++ bytesOf 4 (backToData n)
+    bytesOf 4 n ++ bytesOf 4 (backToHeaders n) ++ bytesOf 4 (backToMap n) ++ bytesOf 4 (backToCounts n)
+    ++ bytesOf 4 (backToData n)
     ++ blank 4 ++ bytesOf 8 clock ++ blank 476 ++ mark
 
 -- on success the image's clock becomes now

@@ -1,4 +1,5 @@
--- One turn and the end of each definition of Run.antt, in the terms of a loop that counts the number up and what is left down.
+-- One turn and the end of each definition of Run.antt, in the terms of a loop that counts the number up and what is
+-- left down.
 -- Assumes nothing.
 use Prim.Native.Nat.{ℕ, zero, suc, _+_, _-_, _*_, _≤_, _<_}
 use mathlib.Core.Path.{_≡_, refl, sym, ap, _∙_}
@@ -19,7 +20,8 @@ less m = omega arith
 module _ (p : ℕ → Bool) where
   -- ---- how many are visited
 
-  pub visits-turn : (most wanted b : ℕ) → 0 < most → 0 < wanted → visits p most wanted b ≡ suc (visits p (most - 1) (wanted - one p b) (b + 1))
+  pub visits-turn : (most wanted b : ℕ) → 0 < most → 0 < wanted
+      → visits p most wanted b ≡ suc (visits p (most - 1) (wanted - one p b) (b + 1))
   unfolding visits
   visits-turn zero wanted b h k = absurd (not-suc-le-zero h)
   visits-turn (suc most) zero b h k = absurd (not-suc-le-zero k)
@@ -83,7 +85,8 @@ module _ (p : ℕ → Bool) where
     unfolding allOf
     visited-turn most wanted b h k e = rw (visits-turn most wanted b h k, e)
 
-    pub visited-stop : (most wanted b : ℕ) → 0 < most → 0 < wanted → q b ≡ false → false ≡ allOf q b (visits p most wanted b)
+    pub visited-stop : (most wanted b : ℕ) → 0 < most → 0 < wanted → q b ≡ false
+        → false ≡ allOf q b (visits p most wanted b)
     unfolding allOf
     visited-stop most wanted b h k e = rw (visits-turn most wanted b h k, e)
 
@@ -121,14 +124,16 @@ module _ (p : ℕ → Bool) where
     unfolding each
     each-no s b e = rw (just-no p b e)
 
-    pub each-turn : (s : S) (b k : ℕ) → 0 < k → each f (each f s (just p b)) (picked p (b + 1) (k - 1)) ≡ each f s (picked p b k)
+    pub each-turn : (s : S) (b k : ℕ) → 0 < k
+        → each f (each f s (just p b)) (picked p (b + 1) (k - 1)) ≡ each f s (picked p b k)
     each-turn s b k h = rw (picked-turn b k h, each-append)
 
     pub each-end : (s : S) (b k : ℕ) → k ≤ 0 → s ≡ each f s (picked p b k)
     unfolding each
     each-end s b k h = rw (picked-end b k h)
 
-  -- ---- a buffer that takes the row f of each that passes, w bytes a row: the rows that are left, written over what there is
+  -- ---- a buffer that takes the row f of each that passes, w bytes a row: the rows that are left, written over what
+  -- there is
 
   module _ (f : ℕ → List ℕ) where
     rows-append : (xs ys : List ℕ) → rows f (xs ++ ys) ≡ rows f xs ++ rows f ys
@@ -155,7 +160,12 @@ module _ (p : ℕ → Bool) where
           ≡ over l (w * i) (rows f (picked p b k))
       rows-turn l i b k h g =
           let e : w * (i + one p b) ≡ w * i + length (rows f (just p b)) = rw (mul-add, length-rows, length-just) in
-          rw (e, over-append l (w * i) (rows f (just p b)) (rows f (picked p (b + 1) (k - 1))) g, picked-turn b k h, rows-append)
+          rw (
+            e,
+            over-append l (w * i) (rows f (just p b)) (rows f (picked p (b + 1) (k - 1))) g,
+            picked-turn b k h,
+            rows-append,
+          )
 
       pub rows-end : (l : List ℕ) (i b k : ℕ) → k ≤ 0 → over l i (rows f (picked p b k)) ≡ l
       unfolding rows

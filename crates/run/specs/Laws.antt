@@ -1,9 +1,9 @@
--- What a reader wants to know of a run: which numbers are picked and how often, how far a visit goes and why it stops, and that a run
--- is what its two parts are.
+-- What a reader wants to know of a run: which numbers are picked and how often, how far a visit goes and why it stops,
+-- and that a run is what its two parts are.
 -- Assumes nothing.
 use Prim.Native.Nat.{ℕ, zero, suc, _+_, _-_, _≤_, _<_}
 use mathlib.Core.Path.{_≡_, refl, sym, ap, _∙_}
-use mathlib.Core.Bool.{Bool, true, false, cond}
+use mathlib.Core.Bool.{Bool, true, false, cond, _&&_, and-assoc}
 use mathlib.Core.List.{List, [], _∷_, _++_, append-assoc}
 use mathlib.Core.Logic.{_⊎_, inl, inr, ⊎-elim}
 use native.Mathlib.Nat.{not-suc-le-zero, eq-or-lt-of-le}
@@ -77,7 +77,8 @@ module _ (p : ℕ → Bool) where
   first-lowest b zero x l h = absurd (omega arith)
   first-lowest b (suc k) x l h = go (first-lowest (b + 1) k x) (p b) refl h
     where
-      go : (b + 1 ≤ x → x < first p (b + 1) k → p x ≡ false) → (t : Bool) → p b ≡ t → x < cond t b (first p (b + 1) k) → p x ≡ false
+      go : (b + 1 ≤ x → x < first p (b + 1) k → p x ≡ false) → (t : Bool) → p b ≡ t → x < cond t b (first p (b + 1) k)
+          → p x ≡ false
       go r true e h = absurd (omega arith)
       go r false e h = ⊎-elim (λ (q : b ≡ x). ap p (sym q) ∙ e) (λ (q : b < x). r (omega arith) h) (eq-or-lt-of-le l)
 
@@ -86,7 +87,8 @@ module _ (p : ℕ → Bool) where
   pub first-within : (b k m : ℕ) → first p b k < b + k → first p b (k + m) ≡ first p b k
   unfolding first
   first-within b zero m h = absurd (omega arith)
-  first-within b (suc k) m h = let e : suc k + m ≡ suc (k + m) = omega arith in rw e (go (p b) (first-within (b + 1) k m) h)
+  first-within b (suc k) m h = let e : suc k + m
+      ≡ suc (k + m) = omega arith in rw e (go (p b) (first-within (b + 1) k m) h)
     where
       go : (t : Bool) → (first p (b + 1) k < b + 1 + k → first p (b + 1) (k + m) ≡ first p (b + 1) k)
           → cond t b (first p (b + 1) k) < b + suc k → cond t b (first p (b + 1) (k + m)) ≡ cond t b (first p (b + 1) k)
@@ -107,30 +109,33 @@ module _ (p : ℕ → Bool) where
       go false r h = r (omega arith)
 
   -- a test that says of each number of a run what p says b higher
-  pub first-moved : (q : ℕ → Bool) (b c k : ℕ) → ((x : ℕ) → c ≤ x → x < c + k → p (b + x) ≡ q x) → first p (b + c) k ≡ b + first q c k
+  pub first-moved : (q : ℕ → Bool) (b c k : ℕ) → ((x : ℕ) → c ≤ x → x < c + k → p (b + x) ≡ q x)
+      → first p (b + c) k ≡ b + first q c k
   unfolding first
   first-moved q b c zero h = refl
   first-moved q b c (suc k) h =
       let z : b + c + 1 ≡ b + (c + 1) = omega arith in
-      rw (z, h c (omega arith) (omega arith)) (go (q c) (first-moved q b (c + 1) k (λ x l u. h x (omega arith) (omega arith))))
+      rw (z, h c (omega arith) (omega arith))
+      (go (q c) (first-moved q b (c + 1) k (λ x l u. h x (omega arith) (omega arith))))
     where
-      go : (t : Bool) → first p (b + (c + 1)) k ≡ b + first q (c + 1) k → cond t (b + c) (first p (b + (c + 1)) k) ≡ b + cond t c (first q (c + 1) k)
+      go : (t : Bool) → first p (b + (c + 1)) k ≡ b + first q (c + 1) k
+          → cond t (b + c) (first p (b + (c + 1)) k) ≡ b + cond t c (first q (c + 1) k)
       go true r = refl
       go false r = r
 
-  -- ---- how far a visit goes: at most `most`, and somewhere if it may
-
-  pub visits-le : (most wanted b : ℕ) → visits p most wanted b ≤ most
-  unfolding visits
-  visits-le zero wanted b = omega arith
-  visits-le (suc most) zero b = omega arith
-  visits-le (suc most) (suc wanted) b = omega (arith, visits-le most (suc wanted - one p b) (b + 1))
+  -- ---- how far a visit goes: somewhere if it may, and at most `most`
 
   pub visits-pos : (most wanted b : ℕ) → 0 < most → 0 < wanted → 0 < visits p most wanted b
   unfolding visits
   visits-pos zero wanted b h k = absurd (not-suc-le-zero h)
   visits-pos (suc most) zero b h k = absurd (not-suc-le-zero k)
   visits-pos (suc most) (suc wanted) b h k = omega arith
+
+  pub visits-le : (most wanted b : ℕ) → visits p most wanted b ≤ most
+  unfolding visits
+  visits-le zero wanted b = omega arith
+  visits-le (suc most) zero b = omega arith
+  visits-le (suc most) (suc wanted) b = omega (arith, visits-le most (suc wanted - one p b) (b + 1))
 
   -- it picks no more than wanted
   pub picked-le : (most wanted b : ℕ) → length (picked p b (visits p most wanted b)) ≤ wanted
@@ -141,7 +146,8 @@ module _ (p : ℕ → Bool) where
       rw length-append (omega (arith, one-le b, length-just b, picked-le most (suc wanted - one p b) (b + 1)))
 
   -- it stops for one of two reasons: no more may be visited, or as many as wanted have passed
-  pub visits-why : (most wanted b : ℕ) → (visits p most wanted b ≡ most) ⊎ (length (picked p b (visits p most wanted b)) ≡ wanted)
+  pub visits-why : (most wanted b : ℕ)
+      → (visits p most wanted b ≡ most) ⊎ (length (picked p b (visits p most wanted b)) ≡ wanted)
   unfolding visits picked
   visits-why zero wanted b = inl refl
   visits-why (suc most) zero b = inr refl
@@ -156,7 +162,13 @@ module _ (p : ℕ → Bool) where
   visits-first (suc most) zero b k h = absurd (not-suc-le-zero h)
   visits-first (suc most) (suc wanted) b zero h = omega arith
   visits-first (suc most) (suc wanted) b (suc k) h =
-      rw length-append (omega (arith, one-le b, length-just b, visits-first most (suc wanted - one p b) (b + 1) k (omega arith)))
+      rw length-append (omega (
+        arith,
+        one-le b,
+        length-just b,
+        visits-first most (suc wanted - one p b) (b + 1) k
+            (omega arith),
+      ))
 
   -- ---- what is picked: each number of the run that passes, once, and nothing else
 
@@ -197,7 +209,8 @@ module _ (p : ℕ → Bool) where
       times-append x (just p b) (picked p (b + 1) k)
       ∙ ⊎-elim
       (λ (e : b ≡ x). rw (← e, times-just-same b, picked-none-below (b + 1) k b (omega arith)) (omega arith))
-      (λ (e : b < x). rw (times-just-other b x (λ q. omega arith), picked-once (b + 1) k x (omega arith) (omega arith)) (omega arith))
+      (λ (e : b < x). rw (times-just-other b x (λ q. omega arith), picked-once (b + 1) k x (omega arith) (omega arith))
+      (omega arith))
       (eq-or-lt-of-le l)
 
   pub picked-few : (b k : ℕ) → length (picked p b k) ≤ k
@@ -208,7 +221,8 @@ module _ (p : ℕ → Bool) where
   pub picked-none : (b k : ℕ) → ((x : ℕ) → b ≤ x → x < b + k → p x ≡ false) → picked p b k ≡ []
   unfolding picked
   picked-none b zero h = refl
-  picked-none b (suc k) h = rw (just-no b (h b (omega arith) (omega arith)), picked-none (b + 1) k (λ x l u. h x (omega arith) (omega arith)))
+  picked-none b (suc k) h = rw
+      (just-no b (h b (omega arith) (omega arith)), picked-none (b + 1) k (λ x l u. h x (omega arith) (omega arith)))
 
   -- ---- a run is what its two parts are
 
@@ -220,6 +234,14 @@ module _ (p : ℕ → Bool) where
       let z : b + suc k ≡ b + 1 + k = omega arith in
       rw (e, z, append-assoc) (ap (λ r. just p b ++ r) (picked-append (b + 1) k m))
 
+  pub all-parts : (b k m : ℕ) → allOf p b (k + m) ≡ (allOf p b k && allOf p (b + k) m)
+  unfolding allOf
+  all-parts b zero m = let e : zero + m ≡ m = omega arith in let z : b + zero ≡ b = omega arith in rw (e, z)
+  all-parts b (suc k) m =
+      let e : suc k + m ≡ suc (k + m) = omega arith in
+      let z : b + suc k ≡ b + 1 + k = omega arith in
+      rw (e, z, all-parts (b + 1) k m) (sym (and-assoc (p b) (allOf p (b + 1) k) (allOf p (b + 1 + k) m)))
+
   -- ---- all pass, where each does
 
   pub all-each : (b k x : ℕ) → allOf p b k ≡ true → b ≤ x → x < b + k → p x ≡ true
@@ -227,17 +249,20 @@ module _ (p : ℕ → Bool) where
   all-each b zero x e l h = absurd (omega arith)
   all-each b (suc k) x e l h =
       let w = both (p b) (allOf p (b + 1) k) e in
-      ⊎-elim (λ (q : b ≡ x). ap p (sym q) ∙ w .0) (λ (q : b < x). all-each (b + 1) k x (w .1) (omega arith) (omega arith)) (eq-or-lt-of-le l)
+      ⊎-elim (λ (q : b ≡ x). ap p (sym q) ∙ w .0)
+      (λ (q : b < x). all-each (b + 1) k x (w .1) (omega arith) (omega arith)) (eq-or-lt-of-le l)
 
   pub all-same : (q : ℕ → Bool) (b k : ℕ) → ((x : ℕ) → b ≤ x → x < b + k → p x ≡ q x) → allOf p b k ≡ allOf q b k
   unfolding allOf
   all-same q b zero h = refl
-  all-same q b (suc k) h = rw (h b (omega arith) (omega arith), all-same q (b + 1) k (λ x l u. h x (omega arith) (omega arith)))
+  all-same q b (suc k) h = rw
+      (h b (omega arith) (omega arith), all-same q (b + 1) k (λ x l u. h x (omega arith) (omega arith)))
 
   pub each-all : (b k : ℕ) → ((x : ℕ) → b ≤ x → x < b + k → p x ≡ true) → allOf p b k ≡ true
   unfolding allOf
   each-all b zero h = refl
-  each-all b (suc k) h = rw (h b (omega arith) (omega arith), each-all (b + 1) k (λ x l u. h x (omega arith) (omega arith)))
+  each-all b (suc k) h = rw
+      (h b (omega arith) (omega arith), each-all (b + 1) k (λ x l u. h x (omega arith) (omega arith)))
 
   -- ---- what holds of each number that passes holds of each that is picked
 
@@ -245,15 +270,18 @@ module _ (p : ℕ → Bool) where
   every-append P [] ys a b = b
   every-append P (x ∷ xs) ys a b = (a .0, every-append P xs ys (a .1) b)
 
-  pub every-picked : (P : ℕ → Type 0) (b k : ℕ) → ((x : ℕ) → b ≤ x → x < b + k → p x ≡ true → P x) → Every P (picked p b k)
+  pub every-picked : (P : ℕ → Type 0) (b k : ℕ) → ((x : ℕ) → b ≤ x → x < b + k → p x ≡ true → P x)
+      → Every P (picked p b k)
   unfolding picked
   every-picked P b zero h = tt
   every-picked P b (suc k) h =
       every-append P (just p b) (picked p (b + 1) k)
-      (⊎-elim (λ (e : p b ≡ true). rw (just-yes b e) (h b (omega arith) (omega arith) e, tt)) (λ (e : p b ≡ false). rw (just-no b e) tt) (decide (p b)))
+      (⊎-elim (λ (e : p b ≡ true). rw (just-yes b e) (h b (omega arith) (omega arith) e, tt)) (λ (e : p b
+      ≡ false). rw (just-no b e) tt) (decide (p b)))
       (every-picked P (b + 1) k (λ x l u. h x (omega arith) (omega arith)))
 
--- ---- two changes at each number of a list: all of the one and then all of the other, where they swap, are both at each number in turn
+-- ---- two changes at each number of a list: all of the one and then all of the other, where they swap, are both at
+-- each number in turn
 
 module _ {S : Type 0} (Q : S → Type 0) (P : ℕ → Type 0) (f g : S → ℕ → S)
     (keeps : (s : S) (b : ℕ) → Q s → P b → Q (f s b))
@@ -262,7 +290,8 @@ module _ {S : Type 0} (Q : S → Type 0) (P : ℕ → Type 0) (f g : S → ℕ �
   across : (s : S) (b : ℕ) (cs : List ℕ) → Q s → P b → Every P cs → g (each f s cs) b ≡ each f (g s b) cs
   unfolding each
   across s b [] q p e = refl
-  across s b (c ∷ cs) q p e = across (f s c) b cs (keeps s c q (e .0)) p (e .1) ∙ ap (λ r. each f r cs) (swap s b c q p (e .0))
+  across s b (c ∷ cs) q p e = across (f s c) b cs (keeps s c q (e .0)) p (e .1)
+      ∙ ap (λ r. each f r cs) (swap s b c q p (e .0))
 
   pub each-both : (s : S) (bs : List ℕ) → Q s → Every P bs → each g (each f s bs) bs ≡ each (λ s b. g (f s b) b) s bs
   unfolding each

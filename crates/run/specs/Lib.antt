@@ -1,3 +1,3 @@
 pub mod Run
 pub mod Laws
-pub mod Walk
+pub mod Tally

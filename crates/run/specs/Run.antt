@@ -1,5 +1,5 @@
 -- A run of block numbers: the k numbers from b upward, under a test p.
-use Prim.Native.Nat.{ℕ, zero, suc, _+_, _-_}
+use Prim.Native.Nat.{ℕ, zero, suc, _+_, _-_, min}
 use mathlib.Core.Bool.{Bool, true, cond, _&&_}
 use mathlib.Core.List.{List, [], _∷_, _++_}
 use lib.Dec.{eqb}
@@ -31,6 +31,14 @@ unfoldable pub visits : (ℕ → Bool) → (most wanted b : ℕ) → ℕ
 visits p zero wanted b = 0
 visits p (suc most) zero b = 0
 visits p (suc most) (suc wanted) b = suc (visits p most (suc wanted - one p b) (b + 1))
+
+-- a key call over n numbers visits those from its key upward, at most 64 and not past n; one that is asked for a count,
+-- none after that many have passed
+abbrev pub reach : (n key : ℕ) → ℕ
+reach n key = min 64 (n - key)
+
+abbrev pub stride : (ℕ → Bool) → (n count key : ℕ) → ℕ
+stride p n count key = visits p (reach n key) count key
 
 -- the bytes f of each number of a list, one after the other
 unfoldable pub rows : (ℕ → List ℕ) → List ℕ → List ℕ

@@ -20,7 +20,8 @@ pub create-diff : (t : Tariff) (c′ e′ : ℕ) → createCharge t c′ e′ �
 unfolding createCharge
 create-diff t c′ e′ = simp (T-diff, ← diff-pos, diff-add) (diff-same _ _ _ _ (omega arith))
 
-pub destroy-diff : (t : Tariff) (c e now : ℕ) → destroyCharge t c e now ≡ diff (t .destroy + t .rate * now) (t .rate * e)
+pub destroy-diff : (t : Tariff) (c e now : ℕ)
+    → destroyCharge t c e now ≡ diff (t .destroy + t .rate * now) (t .rate * e)
 unfolding destroyCharge
 destroy-diff t c e now = simp (T-diff, diff-neg, ← diff-pos, diff-add) (diff-same _ _ _ _ (omega arith))
 
@@ -34,12 +35,15 @@ pub set-expiry-diff : (t : Tariff) (c e c′ e′ : ℕ)
 unfolding setExpiryCharge
 set-expiry-diff t c e c′ e′ = simp (T-diff, diff-neg, ← diff-pos, diff-add) (diff-same _ _ _ _ (omega arith))
 
--- ---- as the code has them: Replace's new block is created at the time of the call, and SetExpiry's when the old one was
+-- ---- as the code has them: Replace's new block is created at the time of the call, and SetExpiry's when the old one
+-- was
 
-pub replace-now : (t : Tariff) (c e now e′ : ℕ) → replaceCharge t c e now now e′ ≡ diff (t .replace + t .rate * e′) (t .rate * e)
+pub replace-now : (t : Tariff) (c e now e′ : ℕ)
+    → replaceCharge t c e now now e′ ≡ diff (t .replace + t .rate * e′) (t .rate * e)
 replace-now t c e now e′ = replace-diff t c e now now e′ ∙ diff-same _ _ _ _ (omega arith)
 
-pub set-expiry-moved : (t : Tariff) (c e e′ : ℕ) → setExpiryCharge t c e c e′ ≡ diff (t .setexpiry + t .rate * e′) (t .rate * e)
+pub set-expiry-moved : (t : Tariff) (c e e′ : ℕ)
+    → setExpiryCharge t c e c e′ ≡ diff (t .setexpiry + t .rate * e′) (t .rate * e)
 set-expiry-moved t c e e′ = set-expiry-diff t c e c e′ ∙ diff-same _ _ _ _ (omega arith)
 
 -- ---- no charge leaves the range of Money, 64 signed bits
@@ -71,22 +75,27 @@ module _ (t : Tariff) (ok : Passed t) where
   worth at h = omega (arith, product 16 40 {a = t .rate} {b = at} (ok .rate) h)
 
   pub create-range : (c′ e′ : ℕ) → c′ < 2 ^ 40 → e′ < 2 ^ 40 → InMoney (createCharge t c′ e′)
-  create-range c′ e′ hc he = rw (create-diff t c′ e′) (mag-diff _ _ (2 ^ 63) (omega (arith, worth e′ he)) (omega (arith, worth c′ hc)))
+  create-range c′ e′ hc he = rw (create-diff t c′ e′)
+      (mag-diff _ _ (2 ^ 63) (omega (arith, worth e′ he)) (omega (arith, worth c′ hc)))
 
   pub destroy-range : (c e now : ℕ) → e < 2 ^ 40 → now < 2 ^ 40 → InMoney (destroyCharge t c e now)
-  destroy-range c e now he hn = rw (destroy-diff t c e now) (mag-diff _ _ (2 ^ 63) (omega (arith, worth now hn)) (omega (arith, worth e he)))
+  destroy-range c e now he hn = rw (destroy-diff t c e now)
+      (mag-diff _ _ (2 ^ 63) (omega (arith, worth now hn)) (omega (arith, worth e he)))
 
-  pub replace-range : (c e now c′ e′ : ℕ) → e < 2 ^ 40 → now < 2 ^ 40 → c′ < 2 ^ 40 → e′ < 2 ^ 40 → InMoney (replaceCharge t c e now c′ e′)
+  pub replace-range : (c e now c′ e′ : ℕ) → e < 2 ^ 40 → now < 2 ^ 40 → c′ < 2 ^ 40 → e′ < 2 ^ 40
+      → InMoney (replaceCharge t c e now c′ e′)
   replace-range c e now c′ e′ he hn hc he′ =
       rw (replace-diff t c e now c′ e′)
       (mag-diff _ _ (2 ^ 63) (omega (arith, worth now hn, worth e′ he′)) (omega (arith, worth e he, worth c′ hc)))
 
-  pub set-expiry-range : (c e c′ e′ : ℕ) → c < 2 ^ 40 → e < 2 ^ 40 → c′ < 2 ^ 40 → e′ < 2 ^ 40 → InMoney (setExpiryCharge t c e c′ e′)
+  pub set-expiry-range : (c e c′ e′ : ℕ) → c < 2 ^ 40 → e < 2 ^ 40 → c′ < 2 ^ 40 → e′ < 2 ^ 40
+      → InMoney (setExpiryCharge t c e c′ e′)
   set-expiry-range c e c′ e′ hc he hc′ he′ =
       rw (set-expiry-diff t c e c′ e′)
       (mag-diff _ _ (2 ^ 63) (omega (arith, worth c hc, worth e′ he′)) (omega (arith, worth e he, worth c′ hc′)))
 
--- ---- the charges of the fourteen calls that have a storage part: the first, fifth, sixth and twelfth, at prices of 10 and a rate of 2
+-- ---- the charges of the fourteen calls that have a storage part: the first, fifth, sixth and twelfth, at prices of 10
+-- and a rate of 2
 
 module _ (t : Tariff) (r : t .rate ≡ 2) where
   pub first : t .create ≡ 10 → createCharge t 100 500 ≡ pos 810

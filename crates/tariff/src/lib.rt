@@ -9,6 +9,7 @@ use kinds::Money;
 use kinds::Tick;
 
 // The prices of the ten operations, the error price, and the rate of storage.
+#[repr(C)]
 pub struct Tariff {
     pub create: u32,
     pub read: u32,

@@ -1,19 +1,20 @@
--- A number from its bytes in a row; one turn and the end of each loop over bytes: of the three that write, and of the zero test.
+-- A number from its bytes in a row; one turn and the end of each loop over bytes: of the three that write, and of the
+-- zero test.
 -- Assumes nothing.
 use Prim.Native.Nat.{ℕ, zero, suc, _+_, _*_, _-_, _/_, _%_, _≤_, _<_}
 use mathlib.Core.Path.{_≡_, refl, sym, ap, _∙_}
-use mathlib.Core.Bool.{Bool, false, _&&_, and-assoc}
+use mathlib.Core.Bool.{Bool, _&&_, and-assoc}
 use mathlib.Core.List.{List, [], _∷_, _++_}
 use native.Mathlib.Numerals.{add-one}
 use native.Mathlib.Omega.{arith}
-use borrow.Author.Tests.{eq-eqb, ne-eqb}
+use borrow.Author.Tests.{ne-eqb}
 use lib.Bits.{bitOr, or-add-and, and-le-r}
 use lib.Dec.{eqb}
 use lib.ListN.{length, drop, getD, set, replicate, take-append-drop}
 use lib.Seq.{sets, sets-eq, drop-cons, drop-drop}
-use Rattle.word.specs.Word.{part, le, wordAt, bytesOf, allZero}
+use Rattle.word.specs.Word.{part, le, wordAt, bytesOf, allZero, Bytes}
 use Rattle.word.specs.Write.{over}
-use Rattle.word.specs.Laws.{length-part, part-split, over-whole, over-append}
+use Rattle.word.specs.Laws.{length-part, part-split, word-bytes, over-whole, over-append}
 
 -- ---- a part, from its first byte on
 
@@ -26,14 +27,16 @@ unfolding le part
 word-one l at h = rw (drop-cons l at 0 h) (omega arith)
 
 -- what is left of it after i bytes
-pub part-left : (l : List ℕ) (at k i : ℕ) → i < k → at + k ≤ length l → part l (at + i) (k - i) ≡ getD l (at + i) 0 ∷ part l (at + (i + 1)) (k - (i + 1))
+pub part-left : (l : List ℕ) (at k i : ℕ) → i < k → at + k ≤ length l
+    → part l (at + i) (k - i) ≡ getD l (at + i) 0 ∷ part l (at + (i + 1)) (k - (i + 1))
 part-left l at k i h f =
     let e : k - i ≡ suc (k - (i + 1)) = omega arith in
     let g : at + (i + 1) ≡ at + i + 1 = omega arith in
     rw (e, g, part-turn l (at + i) (k - (i + 1)) (omega arith))
 
 -- a number, from its byte i on
-pub word-turn : (l : List ℕ) (at i k : ℕ) → at + i < length l → wordAt (suc k) l (at + i) ≡ getD l (at + i) 0 + 256 * wordAt k l (at + (i + 1))
+pub word-turn : (l : List ℕ) (at i k : ℕ) → at + i < length l
+    → wordAt (suc k) l (at + i) ≡ getD l (at + i) 0 + 256 * wordAt k l (at + (i + 1))
 unfolding le
 word-turn l at i k h =
     let e : at + (i + 1) ≡ at + i + 1 = omega arith in
@@ -47,11 +50,25 @@ word-first l at k h = rw (part-turn l at k h)
 pub word-four : (l : List ℕ) (at : ℕ) → at + 4 ≤ length l
     → getD l at 0 + 256 * getD l (at + 1) 0 + 65536 * getD l (at + 2) 0 + 16777216 * getD l (at + 3) 0 ≡ wordAt 4 l at
 word-four l at h =
-    omega (arith, word-first l at 3 (omega arith), word-turn l at 1 2 (omega arith), word-turn l at 2 1 (omega arith), word-one l (at + 3) (omega arith))
+    omega (
+      arith,
+      word-first l at 3 (omega arith),
+      word-turn l at 1 2 (omega arith),
+      word-turn l at 2 1 (omega arith),
+      word-one l (at + 3) (omega arith),
+    )
 
-pub word-eight : (l : List ℕ) (at : ℕ) → at + 8 ≤ length l → wordAt 4 l at + 4294967296 * wordAt 4 l (at + 4) ≡ wordAt 8 l at
+pub word-eight : (l : List ℕ) (at : ℕ) → at + 8 ≤ length l
+    → wordAt 4 l at + 4294967296 * wordAt 4 l (at + 4) ≡ wordAt 8 l at
 word-eight l at h =
-    omega (arith, word-four l at (omega arith), word-first l at 7 (omega arith), word-turn l at 1 6 (omega arith), word-turn l at 2 5 (omega arith), word-turn l at 3 4 (omega arith))
+    omega (
+      arith,
+      word-four l at (omega arith),
+      word-first l at 7 (omega arith),
+      word-turn l at 1 6 (omega arith),
+      word-turn l at 2 5 (omega arith),
+      word-turn l at 3 4 (omega arith),
+    )
 
 -- ---- a loop that stores: what is left to be stored, stored into what there is, gives what is to be
 
@@ -62,7 +79,8 @@ pub store-one : (l : List ℕ) (x v : ℕ) (vs : List ℕ) → storing (set l x 
 unfolding storing
 store-one l x v vs = rw add-one
 
-pub store-turn : (l : List ℕ) (at i v : ℕ) (vs : List ℕ) → storing (set l (at + i) v) (at + (i + 1)) vs ≡ storing l (at + i) (v ∷ vs)
+pub store-turn : (l : List ℕ) (at i v : ℕ) (vs : List ℕ)
+    → storing (set l (at + i) v) (at + (i + 1)) vs ≡ storing l (at + i) (v ∷ vs)
 store-turn l at i v vs = let e : at + (i + 1) ≡ at + i + 1 = omega arith in rw e (store-one l (at + i) v vs)
 
 -- the bytes of a number, of a run of one byte and of a list that are left after i
@@ -101,15 +119,29 @@ piece-turn l at i n vs h f =
     let e : at + (i + n) ≡ at + i + length (part vs i n) = omega (arith, length-part vs i n h) in
     rw (e, over-append l (at + i) (part vs i n) (drop (i + n) vs) (omega arith), left vs i n)
 
+-- sixteen bytes by the two numbers that they spell
+pub two-words : (l : List ℕ) (at : ℕ) (vs : List ℕ) (i : ℕ) → Bytes vs → i + 16 ≤ length vs → at + 16 ≤ length l
+    → over (over l at (bytesOf 8 (wordAt 8 vs i))) (at + 8) (bytesOf 8 (wordAt 8 vs (i + 8))) ≡ over l at (part vs i 16)
+two-words l at vs i b h f =
+    let n = length-part vs i 8 (omega arith) in
+    rw (word-bytes 8 vs i b (omega arith), word-bytes 8 vs (i + 8) b (omega arith), part-split vs i 8 8 h)
+    (ap (λ (x : ℕ). over (over l at (part vs i 8)) x (part vs (i + 8) 8)) (omega arith)
+    ∙ over-append l at (part vs i 8) (part vs (i + 8) 8) (omega arith))
+
 -- ---- the zero test: the bytes or-ed together are zero where each is
 
 or-zero : (a b : ℕ) → eqb (bitOr a b) 0 ≡ (eqb a 0 && eqb b 0)
 or-zero zero b = refl
 or-zero (suc a) b =
-    rw (ne-eqb (bitOr (suc a) b) 0 (λ e. omega (arith, or-add-and (suc a) b, and-le-r (suc a) b)), ne-eqb (suc a) 0 (λ e. omega arith))
+    rw (
+      ne-eqb (bitOr (suc a) b) 0 (λ e. omega (arith, or-add-and (suc a) b, and-le-r (suc a) b)),
+      ne-eqb (suc a) 0
+          (λ e. omega arith),
+    )
 
 pub zero-turn : (l : List ℕ) (at k i acc : ℕ) → i < k → at + k ≤ length l
-    → (eqb (bitOr acc (getD l (at + i) 0)) 0 && allZero (part l (at + (i + 1)) (k - (i + 1)))) ≡ (eqb acc 0 && allZero (part l (at + i) (k - i)))
+    → (eqb (bitOr acc (getD l (at + i) 0)) 0 && allZero (part l (at + (i + 1)) (k - (i + 1))))
+    ≡ (eqb acc 0 && allZero (part l (at + i) (k - i)))
 unfolding allZero
 zero-turn l at k i acc h f = rw (part-left l at k i h f, or-zero) (and-assoc (eqb acc 0) (eqb (getD l (at + i) 0) 0) _)
 
@@ -120,34 +152,23 @@ sum-zero zero zero = refl
 sum-zero zero (suc x) = rw (ne-eqb (0 + 256 * suc x) 0 (λ e. omega arith), ne-eqb (suc x) 0 (λ e. omega arith))
 sum-zero (suc b) x = rw (ne-eqb (suc b + 256 * x) 0 (λ e. omega arith), ne-eqb (suc b) 0 (λ e. omega arith))
 
-zero-le : (bs : List ℕ) → eqb (le bs) 0 ≡ allZero bs
+pub zero-le : (bs : List ℕ) → eqb (le bs) 0 ≡ allZero bs
 unfolding le allZero
 zero-le [] = refl
 zero-le (b ∷ bs) = sum-zero b (le bs) ∙ ap (λ (z : Bool). eqb b 0 && z) (zero-le bs)
 
-allZero-append : (xs ys : List ℕ) → allZero (xs ++ ys) ≡ (allZero xs && allZero ys)
+pub allZero-append : (xs ys : List ℕ) → allZero (xs ++ ys) ≡ (allZero xs && allZero ys)
 unfolding allZero
 allZero-append [] ys = refl
-allZero-append (x ∷ xs) ys = ap (λ (z : Bool). eqb x 0 && z) (allZero-append xs ys) ∙ sym (and-assoc (eqb x 0) (allZero xs) (allZero ys))
+allZero-append (x ∷ xs) ys = ap (λ (z : Bool). eqb x 0 && z) (allZero-append xs ys)
+    ∙ sym (and-assoc (eqb x 0) (allZero xs) (allZero ys))
 
--- six bytes: four, and two more
-word-six : (l : List ℕ) (at : ℕ) → at + 6 ≤ length l
-    → wordAt 4 l at + 4294967296 * getD l (at + 4) 0 + 1099511627776 * getD l (at + 5) 0 ≡ wordAt 6 l at
-word-six l at h =
-    omega (arith, word-four l at (omega arith), word-first l at 5 (omega arith), word-turn l at 1 4 (omega arith), word-turn l at 2 3 (omega arith), word-turn l at 3 2 (omega arith), word-turn l at 4 1 (omega arith), word-one l (at + 5) (omega arith))
-
-pub six-zero : (l : List ℕ) (at : ℕ) → at + 6 ≤ length l
-    → eqb (wordAt 4 l at + 4294967296 * getD l (at + 4) 0 + 1099511627776 * getD l (at + 5) 0) 0 ≡ allZero (part l at 6)
-six-zero l at h = rw (word-six l at h) (zero-le (part l at 6))
-
--- sixteen bytes: twice eight
-module _ (l : List ℕ) (at : ℕ) (h : at + 16 ≤ length l) where
-  halves : (eqb (wordAt 8 l at) 0 && eqb (wordAt 8 l (at + 8)) 0) ≡ allZero (part l at 16)
-  halves =
-      rw (part-split l at 8 8 h, allZero-append (part l at 8) (part l (at + 8) 8), zero-le (part l at 8), zero-le (part l (at + 8) 8))
-
-  pub half-not : 0 < wordAt 8 l at → false ≡ allZero (part l at 16)
-  half-not p = rw (ne-eqb (wordAt 8 l at) 0 (λ e. omega arith)) at halves
-
-  pub half-zero : wordAt 8 l at ≤ 0 → eqb (wordAt 8 l (at + 8)) 0 ≡ allZero (part l at 16)
-  half-zero p = rw (eq-eqb (wordAt 8 l at) 0 (omega arith)) at halves
+-- a loop by numbers of eight bytes: what is left after i of them
+pub words-turn : (l : List ℕ) (at k i acc : ℕ) → i < k → at + 8 * k ≤ length l
+    → (eqb (bitOr acc (wordAt 8 l (at + 8 * i))) 0 && allZero (part l (at + 8 * (i + 1)) (8 * (k - (i + 1)))))
+    ≡ (eqb acc 0 && allZero (part l (at + 8 * i) (8 * (k - i))))
+words-turn l at k i acc h f =
+    let e : 8 * (k - i) ≡ 8 + 8 * (k - (i + 1)) = omega arith in
+    let g : at + 8 * (i + 1) ≡ at + 8 * i + 8 = omega arith in
+    rw (e, g, part-split l (at + 8 * i) 8 (8 * (k - (i + 1))) (omega arith), allZero-append, or-zero, zero-le)
+    (and-assoc (eqb acc 0) (allZero (part l (at + 8 * i) 8)) _)

@@ -1,5 +1,5 @@
--- What a reader wants to know of runs of bytes, each over the width: lengths, bounds, that the two spellings of a number undo one
--- another, and what is read after a write, at the same place and at another.
+-- What a reader wants to know of runs of bytes, each over the width: lengths, bounds, that the two spellings of a
+-- number undo one another, and what is read after a write, at the same place and at another.
 -- Assumes nothing.
 use Prim.Native.Nat.{ℕ, zero, suc, _+_, _*_, _-_, _/_, _%_, _^_, _≤_, _<_, min}
 use mathlib.Core.Path.{_≡_, refl, sym, ap, ap₂, _∙_}
@@ -10,8 +10,10 @@ use native.Mathlib.Nat.{add-zero, pow-suc, pow-zero, div-lt-iff-lt-mul, le-of-eq
 use native.Mathlib.Omega.{arith}
 use borrow.Author.Tests.{eqb-true}
 use lib.Dec.{eqb, lit<}
-use lib.ListN.{length, take, drop, getD, length-append, length-take, length-drop, take-append-drop, drop-of-length-le, replicate, length-replicate, getD-replicate, List·getD-append, List·getD-eq-default}
-use lib.Seq.{getD-take, getD-drop, getD-append-add, ext-getD, take-append-seam, drop-append-add, take-at, drop-at, drop-drop, take-all}
+use lib.ListN.{length, take, drop, getD, length-append, length-take, length-drop, take-append-drop, drop-of-length-le}
+use lib.ListN.{replicate, length-replicate, getD-replicate, List·getD-append, List·getD-eq-default}
+use lib.Seq.{getD-take, getD-drop, getD-append-add, ext-getD, take-append-seam, drop-append-add, take-at, drop-at}
+use lib.Seq.{drop-drop, take-all}
 use Rattle.plain.specs.Numbers.{lt-or-le}
 use Rattle.plain.specs.Tests.{both}
 use Rattle.word.specs.Word.{part, le, wordAt, bytesOf, Spelled, blank, allZero, Bytes}
@@ -50,7 +52,8 @@ unfolding part
 length-part-any l at k = simp (length-take, length-drop)
 
 -- two lists of one length that agree at the places of a part have one part there
-pub part-agree : (l l′ : List ℕ) (at k : ℕ) → length l ≡ length l′ → ((x : ℕ) → at ≤ x → x < at + k → getD l x 0 ≡ getD l′ x 0) → part l at k ≡ part l′ at k
+pub part-agree : (l l′ : List ℕ) (at k : ℕ) → length l ≡ length l′
+    → ((x : ℕ) → at ≤ x → x < at + k → getD l x 0 ≡ getD l′ x 0) → part l at k ≡ part l′ at k
 part-agree l l′ at k e h =
     ext-getD 0 (part l at k) (part l′ at k) (simp length-part-any (omega arith))
     (λ i p. let b : i < k = omega (arith, length-part-any l at k) in
@@ -69,7 +72,8 @@ pub part-whole : (l : List ℕ) (k : ℕ) → length l ≡ k → part l 0 k ≡ 
 unfolding part
 part-whole l k e = take-all k l (le-of-eq e)
 
-pub part-split : (l : List ℕ) (at k m : ℕ) → at + (k + m) ≤ length l → part l at (k + m) ≡ part l at k ++ part l (at + k) m
+pub part-split : (l : List ℕ) (at k m : ℕ) → at + (k + m) ≤ length l
+    → part l at (k + m) ≡ part l at k ++ part l (at + k) m
 part-split l at k m h =
     let e = length-part l at k (omega arith) in
     ext-getD 0 (part l at (k + m)) (part l at k ++ part l (at + k) m)
@@ -94,7 +98,8 @@ module _ (l : List ℕ) (at : ℕ) (vs : List ℕ) (h : at + length vs ≤ lengt
   unfolding over
   before x b =
       let n : length (take at l) ≡ at = simp length-take (omega arith) in
-      rw append-assoc (List·getD-append (take at l) (vs ++ drop (at + length vs) l) 0 x (omega arith) ∙ getD-take at l x 0 b)
+      rw append-assoc (List·getD-append (take at l) (vs ++ drop (at + length vs) l) 0 x (omega arith)
+      ∙ getD-take at l x 0 b)
 
   after : (x : ℕ) → at + length vs ≤ x → getD (over l at vs) x 0 ≡ getD l x 0
   unfolding over
@@ -108,7 +113,8 @@ module _ (l : List ℕ) (at : ℕ) (vs : List ℕ) (h : at + length vs ≤ lengt
 
   -- a place that is not written keeps its byte
   pub kept : (x : ℕ) → (at ≤ x → x < at + length vs → ⊥) → getD (over l at vs) x 0 ≡ getD l x 0
-  kept x a = ⊎-elim (before x) (λ p. after x (⊎-elim (λ q. absurd (a p q)) (λ q. q) (lt-or-le x (at + length vs)))) (lt-or-le x at)
+  kept x a = ⊎-elim (before x) (λ p. after x (⊎-elim (λ q. absurd (a p q)) (λ q. q) (lt-or-le x (at + length vs))))
+      (lt-or-le x at)
 
   -- what is written elsewhere does not show
   pub frame : (a k : ℕ) → Apart a k at (length vs) → part (over l at vs) a k ≡ part l a k
@@ -135,7 +141,8 @@ over-part : (l : List ℕ) (at k : ℕ) → at + k ≤ length l → over l at (p
 unfolding over
 over-part l at k h = rw (length-part l at k h, append-assoc) (rest l at k)
 
-pub over-same : (l : List ℕ) (at : ℕ) (vs : List ℕ) → at + length vs ≤ length l → part l at (length vs) ≡ vs → over l at vs ≡ l
+pub over-same : (l : List ℕ) (at : ℕ) (vs : List ℕ) → at + length vs ≤ length l → part l at (length vs) ≡ vs
+    → over l at vs ≡ l
 over-same l at vs h e = ap (over l at) (sym e) ∙ over-part l at (length vs) h
 
 -- to write all leaves nothing of what was
@@ -143,8 +150,24 @@ pub over-whole : (l vs : List ℕ) → length vs ≡ length l → over l 0 vs �
 unfolding over
 over-whole l vs h = rw (drop-of-length-le l {i = 0 + length vs} (omega arith)) (append-nil vs)
 
+-- of two writes to one place the second stands
+pub over-again : (l : List ℕ) (at : ℕ) (xs ys : List ℕ) → at + length xs ≤ length l → length xs ≡ length ys
+    → over (over l at xs) at ys ≡ over l at ys
+unfolding over
+over-again l at xs ys h e =
+    let n : length (take at l) ≡ at = simp length-take (omega arith) in
+    let m : length (take at l ++ xs) ≡ at + length ys = simp (length-append, length-take) (omega arith) in
+    rw (drop-at (take at l ++ xs) (drop (at + length xs) l) (at + length ys) m)
+    (rw (
+      append-assoc (take at l) xs (drop (at + length xs) l),
+      take-at (take at l) (xs
+          ++ drop (at + length xs) l) at n,
+      e,
+    ))
+
 -- two writes one after the other are one
-pub over-append : (l : List ℕ) (at : ℕ) (xs ys : List ℕ) → at ≤ length l → over (over l at xs) (at + length xs) ys ≡ over l at (xs ++ ys)
+pub over-append : (l : List ℕ) (at : ℕ) (xs ys : List ℕ) → at ≤ length l
+    → over (over l at xs) (at + length xs) ys ≡ over l at (xs ++ ys)
 unfolding over
 over-append l at xs ys h =
     let n : length (take at l ++ xs) ≡ at + length xs = simp (length-append, length-take) (omega arith) in
@@ -159,21 +182,25 @@ over-append l at xs ys h =
 
 -- two writes to places that have nothing in common, in either order
 
-written : (l : List ℕ) (at : ℕ) (vs : List ℕ) → at + length vs ≤ length l → (x : ℕ) → at ≤ x → x < at + length vs → getD (over l at vs) x 0 ≡ getD vs (x - at) 0
+written : (l : List ℕ) (at : ℕ) (vs : List ℕ) → at + length vs ≤ length l → (x : ℕ) → at ≤ x → x < at + length vs
+    → getD (over l at vs) x 0 ≡ getD vs (x - at) 0
 written l at vs h x p q =
     let e : at + (x - at) ≡ x = omega arith in
     sym
     (ap (λ r. getD r (x - at) 0) (sym (same l at vs h)) ∙ getD-part (over l at vs) at (length vs) (x - at) (omega arith)
     ∙ ap (λ (y : ℕ). getD (over l at vs) y 0) e)
 
-pub over-swap : (l : List ℕ) (a : ℕ) (xs : List ℕ) (b : ℕ) (ys : List ℕ) → a + length xs ≤ length l → b + length ys ≤ length l
+pub over-swap : (l : List ℕ) (a : ℕ) (xs : List ℕ) (b : ℕ) (ys : List ℕ) → a + length xs ≤ length l
+    → b + length ys ≤ length l
     → Apart a (length xs) b (length ys) → over (over l a xs) b ys ≡ over (over l b ys) a xs
 over-swap l a xs b ys ha hb d =
     let m = length-over l a xs ha in
     let n = length-over l b ys hb in
     let f = length-over (over l a xs) b ys (omega arith) in
     let g = length-over (over l b ys) a xs (omega arith) in
-    ext-getD 0 (over (over l a xs) b ys) (over (over l b ys) a xs) (f ∙ m ∙ sym (g ∙ n)) (λ x p. at-each x (lt-or-le x a) (lt-or-le x (a + length xs)) (lt-or-le x b) (lt-or-le x (b + length ys)))
+    ext-getD 0 (over (over l a xs) b ys) (over (over l b ys) a xs) (f ∙ m
+    ∙ sym (g ∙ n)) (λ x p. at-each x (lt-or-le x a) (lt-or-le x (a + length xs)) (lt-or-le x b)
+    (lt-or-le x (b + length ys)))
   where
     m′ : b + length ys ≤ length (over l a xs)
     m′ = omega (arith, length-over l a xs ha)
@@ -182,16 +209,23 @@ over-swap l a xs b ys ha hb d =
     n′ = omega (arith, length-over l b ys hb)
 
     -- a place of neither, of the first and of the second
-    neither : (x : ℕ) → (a ≤ x → x < a + length xs → ⊥) → (b ≤ x → x < b + length ys → ⊥) → getD (over (over l a xs) b ys) x 0 ≡ getD (over (over l b ys) a xs) x 0
-    neither x p q = kept (over l a xs) b ys m′ x q ∙ kept l a xs ha x p ∙ sym (kept (over l b ys) a xs n′ x p ∙ kept l b ys hb x q)
+    neither : (x : ℕ) → (a ≤ x → x < a + length xs → ⊥) → (b ≤ x → x < b + length ys → ⊥)
+        → getD (over (over l a xs) b ys) x 0 ≡ getD (over (over l b ys) a xs) x 0
+    neither x p q = kept (over l a xs) b ys m′ x q ∙ kept l a xs ha x p
+        ∙ sym (kept (over l b ys) a xs n′ x p ∙ kept l b ys hb x q)
 
-    first : (x : ℕ) → a ≤ x → x < a + length xs → getD (over (over l a xs) b ys) x 0 ≡ getD (over (over l b ys) a xs) x 0
-    first x p q = kept (over l a xs) b ys m′ x (d x p q) ∙ written l a xs ha x p q ∙ sym (written (over l b ys) a xs n′ x p q)
+    first : (x : ℕ) → a ≤ x → x < a + length xs
+        → getD (over (over l a xs) b ys) x 0 ≡ getD (over (over l b ys) a xs) x 0
+    first x p q = kept (over l a xs) b ys m′ x (d x p q) ∙ written l a xs ha x p q
+        ∙ sym (written (over l b ys) a xs n′ x p q)
 
-    second : (x : ℕ) → b ≤ x → x < b + length ys → getD (over (over l a xs) b ys) x 0 ≡ getD (over (over l b ys) a xs) x 0
-    second x p q = written (over l a xs) b ys m′ x p q ∙ sym (kept (over l b ys) a xs n′ x (λ r t. d x r t p q) ∙ written l b ys hb x p q)
+    second : (x : ℕ) → b ≤ x → x < b + length ys
+        → getD (over (over l a xs) b ys) x 0 ≡ getD (over (over l b ys) a xs) x 0
+    second x p q = written (over l a xs) b ys m′ x p q
+        ∙ sym (kept (over l b ys) a xs n′ x (λ r t. d x r t p q) ∙ written l b ys hb x p q)
 
-    at-each : (x : ℕ) → (x < a) ⊎ (a ≤ x) → (x < a + length xs) ⊎ (a + length xs ≤ x) → (x < b) ⊎ (b ≤ x) → (x < b + length ys) ⊎ (b + length ys ≤ x)
+    at-each : (x : ℕ) → (x < a) ⊎ (a ≤ x) → (x < a + length xs) ⊎ (a + length xs ≤ x) → (x < b) ⊎ (b ≤ x)
+        → (x < b + length ys) ⊎ (b + length ys ≤ x)
         → getD (over (over l a xs) b ys) x 0 ≡ getD (over (over l b ys) a xs) x 0
     at-each x (inr p) (inl q) r t = first x p q
     at-each x (inl p) q (inr r) (inl t) = second x r t
@@ -211,7 +245,8 @@ length-puts (w ∷ ws) l h =
     length-puts ws (over l (w .at) (w .bytes)) (rw e (h .1)) ∙ e
 
 -- a place that no write touches is as it was
-pub frames : (ws : List Write) (l : List ℕ) (a k : ℕ) → Within (length l) ws → Spares a k ws → part (puts l ws) a k ≡ part l a k
+pub frames : (ws : List Write) (l : List ℕ) (a k : ℕ) → Within (length l) ws → Spares a k ws
+    → part (puts l ws) a k ≡ part l a k
 unfolding puts
 frames [] l a k h s = refl
 frames (w ∷ ws) l a k h s =
@@ -219,13 +254,16 @@ frames (w ∷ ws) l a k h s =
     ∙ frame l (w .at) (w .bytes) (h .0) a k (s .0)
 
 -- a write that no later one touches reads back
-pub got : (i : ℕ) (ws : List Write) (l : List ℕ) → Within (length l) ws → Stays i ws → part (puts l ws) (nth i ws .at) (length (nth i ws .bytes)) ≡ nth i ws .bytes
+pub got : (i : ℕ) (ws : List Write) (l : List ℕ) → Within (length l) ws → Stays i ws
+    → part (puts l ws) (nth i ws .at) (length (nth i ws .bytes)) ≡ nth i ws .bytes
 unfolding puts part
 got i [] l h s = refl
 got zero (w ∷ ws) l h s =
-    frames ws (over l (w .at) (w .bytes)) (w .at) (length (w .bytes)) (rw (length-over l (w .at) (w .bytes) (h .0)) (h .1)) s
+    frames ws (over l (w .at) (w .bytes)) (w .at) (length (w .bytes))
+    (rw (length-over l (w .at) (w .bytes) (h .0)) (h .1)) s
     ∙ same l (w .at) (w .bytes) (h .0)
-got (suc i) (w ∷ ws) l h s = got i ws (over l (w .at) (w .bytes)) (rw (length-over l (w .at) (w .bytes) (h .0)) (h .1)) s
+got (suc i) (w ∷ ws) l h s = got i ws (over l (w .at) (w .bytes))
+    (rw (length-over l (w .at) (w .bytes) (h .0)) (h .1)) s
 
 -- ---- numbers
 
@@ -257,12 +295,14 @@ pub bytes-part : (l : List ℕ) (at k : ℕ) → Bytes l → Bytes (part l at k)
 bytes-part l at k h i =
     ⊎-elim
     (λ (p : i < k). rw (getD-part l at k i p) (h (at + i)))
-    (λ (p : k ≤ i). rw (List·getD-eq-default (part l at k) 0 {n = i} (omega (arith, length-part-any l at k))) (omega arith))
+    (λ (p : k ≤ i). rw (List·getD-eq-default (part l at k) 0 {n = i} (omega (arith, length-part-any l at k)))
+    (omega arith))
     (lt-or-le i k)
 
 pub word-bound : (k : ℕ) (l : List ℕ) (at : ℕ) → Bytes l → Spelled k (wordAt k l at)
 word-bound k l at h =
-    le-trans (le-bound (part l at k) (bytes-part l at k h)) (pow-le-pow-right (lit< tt) (omega (arith, length-part-any l at k)))
+    le-trans (le-bound (part l at k) (bytes-part l at k h))
+    (pow-le-pow-right (lit< tt) (omega (arith, length-part-any l at k)))
 
 pub word-below : (m k : ℕ) (l : List ℕ) (at : ℕ) → Bytes l → k ≤ m → Spelled m (wordAt k l at)
 word-below m k l at h b = le-trans (word-bound k l at h) (pow-le-pow-right (lit< tt) b)
@@ -272,7 +312,8 @@ pub word-bytes : (k : ℕ) (l : List ℕ) (at : ℕ) → Bytes l → at + k ≤ 
 word-bytes k l at h f = rw (length-part l at k f) at (bytesOf-le (part l at k) (bytes-part l at k h))
 
 -- a number that is written reads back, at its own place
-pub word-same : (k : ℕ) (l : List ℕ) (at v : ℕ) → at + k ≤ length l → Spelled k v → wordAt k (over l at (bytesOf k v)) at ≡ v
+pub word-same : (k : ℕ) (l : List ℕ) (at v : ℕ) → at + k ≤ length l → Spelled k v
+    → wordAt k (over l at (bytesOf k v)) at ≡ v
 word-same k l at v h b =
     ap le (rw length-bytesOf at (same l at (bytesOf k v) (rw length-bytesOf h))) ∙ le-bytesOf k v b
 

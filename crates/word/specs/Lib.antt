@@ -1,3 +1,4 @@
 pub mod Word
 pub mod Write
 pub mod Laws
+pub mod Bits

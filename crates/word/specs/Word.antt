@@ -1,4 +1,5 @@
--- Runs of bytes in a list of bytes, and the numbers that they spell, lowest byte first. Each is over the width k, in bytes.
+-- Runs of bytes in a list of bytes, and the numbers that they spell, lowest byte first. Each is over the width k, in
+-- bytes.
 use Prim.Native.Nat.{ℕ, zero, suc, _+_, _*_, _/_, _%_, _^_, _<_}
 use mathlib.Core.Bool.{Bool, true, _&&_}
 use mathlib.Core.List.{List, [], _∷_}

@@ -1,6 +1,6 @@
 // Little-endian numbers and runs of bytes, read from and written to a lent slice.
 ghost use mathlib.Core.Path.{_≡_};
-ghost use Prim.Native.Nat.{_+_, _≤_, _<_};
+ghost use Prim.Native.Nat.{_+_, _*_, _≤_, _<_};
 ghost use lib.ListN.{length, replicate};
 ghost use Rattle.word.specs.Word.{part, wordAt, bytesOf, blank, allZero};
 ghost use Rattle.word.specs.Write.{over};
@@ -12,7 +12,8 @@ fn wide(x: u8) -> u64
     x as u64
 }
 
-// The number that 4 bytes from a place spell: the one body of the reads. A sum in a row, with no loop, becomes one load.
+// The number that 4 bytes from a place spell: the one body of the reads. A sum in a row, with no loop, becomes one
+// load.
 fn four(s: &[u8], at: usize) -> u64
     requires { ⌜ at + 4 ≤ length (now s) ⌝ }
     ensures { λ r. ⌜ (r ≡ wordAt 4 (now (s .entry)) at) × (r < 4294967296) ⌝ }
@@ -112,6 +113,30 @@ fn paste_bytes(s: &mut [u8], at: usize, src: &[u8])
     }
 }
 
+// Copies 16 bytes from a place of src to a place, by the two numbers that they spell: two loads and two stores.
+fn paste16(s: &mut [u8], at: usize, src: &[u8], from: usize)
+    requires { ⌜ (at + 16 ≤ length (now s)) × (from + 16 ≤ length (now src)) ⌝ }
+    ensures { λ _. ⌜ now (s .exit) ≡ over (now (s .entry)) at (part (now (src .entry)) from 16) ⌝ }
+{
+    let low = get64(src, from);
+    let high = get64(src, from + 8);
+    put64(s, at, low);
+    put64(s, at + 8, high)
+}
+
+// Copies all of src to a place, 16 bytes at a time and then byte by byte.
+fn paste_rest(s: &mut [u8], at: usize, src: &[u8])
+    requires { ⌜ at + length (now src) ≤ length (now s) ⌝ }
+    ensures { λ _. ⌜ now (s .exit) ≡ over (now (s .entry)) at (now (src .entry)) ⌝ }
+{
+    let mut i: usize = 0;
+    while 16 <= src.len() - i {
+        paste16(s, at + i, src, i);
+        i += 16;
+    }
+    paste_bytes(s, at + i, &src[i..])
+}
+
 // A disk block of bytes from a place, by value.
 fn piece(src: &[u8], from: usize) -> [u8; 512]
     requires { ⌜ from + 512 ≤ length (now src) ⌝ }
@@ -137,7 +162,8 @@ fn put_piece(s: &mut [u8], at: usize, block: [u8; 512])
     }
 }
 
-// Copies all of src to a place. Whole disk blocks go by value, which becomes one memmove each: s and src are not known to be apart.
+// Copies all of src to a place. Whole disk blocks go by value, which becomes one memmove each: s and src are not known
+// to be apart.
 pub fn paste(s: &mut [u8], at: usize, src: &[u8])
     requires { ⌜ at + length (now src) ≤ length (now s) ⌝ }
     ensures { λ _. ⌜ now (s .exit) ≡ over (now (s .entry)) at (now (src .entry)) ⌝ }
@@ -147,29 +173,7 @@ pub fn paste(s: &mut [u8], at: usize, src: &[u8])
         put_piece(s, at + i, piece(src, i));
         i += 512;
     }
-    paste_bytes(s, at + i, &src[i..])
-}
-
-// Whether 6 bytes from a place are all zero: by the number that they spell, which takes fewer steps than a run of bytes.
-pub fn is_zero6(s: &[u8], at: usize) -> bool
-    requires { ⌜ at + 6 ≤ length (now s) ⌝ }
-    ensures { λ r. ⌜ r ≡ allZero (part (now (s .entry)) at 6) ⌝ }
-{
-    let low = four(s, at);
-    let b4 = wide(s[at + 4]);
-    let b5 = wide(s[at + 5]);
-    low + 4294967296 * b4 + 1099511627776 * b5 == 0
-}
-
-// Whether 16 bytes from a place are all zero: by the two numbers that they spell.
-pub fn is_zero16(s: &[u8], at: usize) -> bool
-    requires { ⌜ at + 16 ≤ length (now s) ⌝ }
-    ensures { λ r. ⌜ r ≡ allZero (part (now (s .entry)) at 16) ⌝ }
-{
-    if 0 < get64(s, at) {
-        return false;
-    }
-    get64(s, at + 8) == 0
+    paste_rest(s, at + i, &src[i..])
 }
 
 // Whether the k bytes from a place are all zero. All are looked at: a loop that stops early does not vectorize.
@@ -181,6 +185,21 @@ pub fn is_zero(s: &[u8], at: usize, k: usize) -> bool
     let mut i = 0;
     while i < k {
         acc = acc | s[at + i];
+        i += 1;
+    }
+    acc == 0
+}
+
+// Whether the 8 * k bytes from a place are all zero: by the k numbers that they spell, which takes fewer steps than a
+// run of bytes.
+pub fn is_zero8(s: &[u8], at: usize, k: usize) -> bool
+    requires { ⌜ at + 8 * k ≤ length (now s) ⌝ }
+    ensures { λ r. ⌜ r ≡ allZero (part (now (s .entry)) at (8 * k)) ⌝ }
+{
+    let mut acc: u64 = 0;
+    let mut i = 0;
+    while i < k {
+        acc = acc | get64(s, at + 8 * i);
         i += 1;
     }
     acc == 0

@@ -1,4 +1,5 @@
--- `ident::disguise` meets its contract. The invariant: the rounds that are left, of what there is, give the disguised number.
+-- `ident::disguise` meets its contract. The invariant: the rounds that are left, of what there is, give the disguised
+-- number.
 -- Assumes nothing.
 use Prim.Native.Nat.{_-_, _≤_}
 use mathlib.Core.Path.{_≡_, refl, _∙_}

@@ -12,4 +12,5 @@ unfolding idOf
 returns c = ap ident (c .disguise .ensures)
 
 pub make-spec : {M : Type 1} → statement M
-make-spec = tie.close (tie.spec (λ c. search needs) (λ c. search needs) (λ c. search needs) (λ c κs. search needs) returns)
+make-spec = tie.close (tie.spec (λ c. search needs) (λ c. search needs) (λ c. search needs)
+    (λ c κs. search needs) returns)

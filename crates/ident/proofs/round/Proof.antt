@@ -19,4 +19,5 @@ returns c = refl
 pub round-spec : {M : Type 1} → statement M
 round-spec =
     tie.close
-    (tie.spec (λ c. search needs) (λ c. omega (arith, halves c)) (λ c. omega (arith, halves c)) (λ c. search needs) returns)
+    (tie.spec (λ c. search needs) (λ c. omega (arith, halves c)) (λ c. omega (arith, halves c))
+    (λ c. search needs) returns)

@@ -23,8 +23,16 @@ loop-holds c = (search needs, refl)
 loop-again : tie.Need-loop-again Inv-loop μ-loop
 loop-again c =
     let l = c .before .before .loop in
-    let e : l .i - 1 + 1 ≡ l .i = omega arith in
-    (search needs, cc (c .unround .ensures, l .inv .1, e, down keys (l .i - 1) (c .before .before .before .args .id .0) (omega arith)))
+    let e : l .i - 1 + 1 ≡ l .i = omega arith in (
+      search needs,
+      cc (
+        c .unround .ensures,
+        l .inv .1,
+        e,
+        down keys (l .i - 1) (c .before .before .before .args .id .0)
+            (omega arith),
+      ),
+    )
 
 returns : tie.Need-returns Inv-loop μ-loop
 unfolding undone

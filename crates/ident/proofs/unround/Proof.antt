@@ -19,4 +19,5 @@ returns c = refl
 pub unround-spec : {M : Type 1} → statement M
 unround-spec =
     tie.close
-    (tie.spec (λ c. omega (arith, halves c)) (λ c. search needs) (λ c. search needs) (λ c. search needs) (λ c. search needs) returns)
+    (tie.spec (λ c. omega (arith, halves c)) (λ c. search needs) (λ c. search needs) (λ c. search needs)
+    (λ c. search needs) returns)

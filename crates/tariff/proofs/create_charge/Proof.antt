@@ -11,4 +11,5 @@ returns c = let a = c .before .before .before .before .args in cc (create-diff (
 pub create-charge-spec : {M : Type 1} → statement M
 create-charge-spec =
     tie.close
-    (tie.spec (λ c. search needs) (λ c κs. search needs) (λ c. search needs) (λ c κs. search needs) (λ c κs. search needs) returns)
+    (tie.spec (λ c. search needs) (λ c κs. search needs) (λ c. search needs) (λ c κs. search needs)
+    (λ c κs. search needs) returns)

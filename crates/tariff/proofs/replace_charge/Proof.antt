@@ -6,9 +6,11 @@ use Rattle.tariff.proofs.replace_charge.Statement.{statement}
 use Rattle.tariff.proofs.replace_charge.Tie as tie
 
 returns : tie.Need-returns
-returns c = let a = c .before .before .before .before .args in cc (replace-now (a .t) (a .created .0) (a .expires .0) (a .time .0) (a .until .0))
+returns c = let a = c .before .before .before .before .args in cc
+    (replace-now (a .t) (a .created .0) (a .expires .0) (a .time .0) (a .until .0))
 
 pub replace-charge-spec : {M : Type 1} → statement M
 replace-charge-spec =
     tie.close
-    (tie.spec (λ c. search needs) (λ c κs. search needs) (λ c. search needs) (λ c κs. search needs) (λ c κs. search needs) returns)
+    (tie.spec (λ c. search needs) (λ c κs. search needs) (λ c. search needs) (λ c κs. search needs)
+    (λ c κs. search needs) returns)

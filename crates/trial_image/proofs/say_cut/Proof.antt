@@ -14,4 +14,5 @@ slice-aggregate-say-check : tie.Need-slice-aggregate-say-check
 slice-aggregate-say-check c = simp length-take (omega arith)
 
 pub say-cut-spec : {M : Type 1} → statement M
-say-cut-spec = tie.close (tie.spec slice-aggregate-say-check (λ c κs. search needs) (λ c. search needs) (λ c. search needs))
+say-cut-spec = tie.close
+    (tie.spec slice-aggregate-say-check (λ c κs. search needs) (λ c. search needs) (λ c. search needs))

@@ -1,4 +1,5 @@
--- `trial_image::zeros` gives an array of its type's length. The law is stated for every length, so that no list of this one is made.
+-- `trial_image::zeros` gives an array of its type's length. The law is stated for every length, so that no list of this
+-- one is made.
 -- Assumes nothing.
 use Prim.Native.Nat.{ℕ}
 use mathlib.Core.Path.{_≡_, sym}

@@ -1,4 +1,5 @@
--- `word::fill` meets its contract. The invariant: the bytes that are left, stored into what there is, give what is to be.
+-- `word::fill` meets its contract. The invariant: the bytes that are left, stored into what there is, give what is to
+-- be.
 -- Assumes nothing.
 use Prim.Native.Nat.{_+_, _-_, _≤_}
 use mathlib.Core.Path.{_≡_, refl, _∙_}
@@ -11,7 +12,8 @@ use Rattle.word.proofs.fill.Statement.{statement}
 use Rattle.word.proofs.fill.Tie as tie
 
 abbrev Inv-loop : tie.InvT-loop
-Inv-loop s₀ at k v i₀ s i = (i ≤ k) × (length s ≡ length s₀) × (storing s (at + i) (replicate (k - i) v) ≡ storing s₀ at (replicate k v))
+Inv-loop s₀ at k v i₀ s i = (i ≤ k) × (length s ≡ length s₀)
+    × (storing s (at + i) (replicate (k - i) v) ≡ storing s₀ at (replicate k v))
 
 abbrev μ-loop : tie.MeasureT-loop
 μ-loop s₀ at k v i₀ s i = k - i
@@ -21,8 +23,12 @@ loop-holds c = (search needs, refl, rw (add-zero, sub-zero))
 
 loop-again : tie.Need-loop-again Inv-loop μ-loop
 loop-again c =
-    let l = c .before .loop in
-    (search needs, rw length-set (l .inv .1), store-turn _ _ _ _ _ ∙ rw (fill-turn _ _ _ (c .loop-test .taken)) at (l .inv .2))
+    let l = c .before .loop in (
+      search needs,
+      rw length-set (l .inv .1),
+      store-turn _ _ _ _ _
+          ∙ rw (fill-turn _ _ _ (c .loop-test .taken)) at (l .inv .2),
+    )
 
 returns : tie.Need-returns Inv-loop μ-loop
 returns c =

@@ -10,8 +10,11 @@ returns : tie.Need-returns
 returns c =
     let c3 = c .before .before in
     let c2 = c3 .before .before in
-    let c1 = c2 .before .before in
-    (rw (c1 .wide .ensures .0, c2 .wide2 .ensures .0, c3 .wide3 .ensures .0, c .wide4 .ensures .0) (word-four _ _ (search needs)), omega arith)
+    let c1 = c2 .before .before in (
+      rw (c1 .wide .ensures .0, c2 .wide2 .ensures .0, c3 .wide3 .ensures .0, c .wide4 .ensures .0)
+          (word-four _ _ (search needs)),
+      omega arith,
+    )
 
 pub four-spec : {M : Type 1} → statement M
 four-spec =

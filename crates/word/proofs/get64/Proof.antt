@@ -10,4 +10,5 @@ returns c = rw (c .before .four .ensures .0, c .four2 .ensures .0) (word-eight _
 
 pub get64-spec : {M : Type 1} → statement M
 get64-spec =
-    tie.close (tie.spec (λ c κs. search needs) (λ c. search needs) (λ c κs. search needs) (λ c. search needs) (λ c. search needs) returns)
+    tie.close (tie.spec (λ c κs. search needs) (λ c. search needs) (λ c κs. search needs) (λ c. search needs)
+    (λ c. search needs) returns)

@@ -1,4 +1,5 @@
--- `word::is_zero` meets its contract. The invariant: what was or-ed together is zero and so is what is left, where all is.
+-- `word::is_zero` meets its contract. The invariant: what was or-ed together is zero and so is what is left, where all
+-- is.
 -- Assumes nothing.
 use Prim.Native.Nat.{_+_, _-_, _≤_}
 use mathlib.Core.Path.{_≡_, sym, _∙_}
@@ -25,8 +26,11 @@ loop-holds c = (search needs, rw (add-zero, sub-zero))
 loop-again : tie.Need-loop-again Inv-loop μ-loop
 loop-again c =
     let l = c .before .before .loop in
-    let a = c .before .before .before .args in
-    (search needs, zero-turn (now (a .s)) (a .at) (a .k) (l .i) (l .acc) (c .before .loop-test .taken) (omega arith) ∙ l .inv .1)
+    let a = c .before .before .before .args in (
+      search needs,
+      zero-turn (now (a .s)) (a .at) (a .k) (l .i) (l .acc) (c .before .loop-test .taken) (omega arith)
+          ∙ l .inv .1,
+    )
 
 returns : tie.Need-returns Inv-loop μ-loop
 unfolding allZero part

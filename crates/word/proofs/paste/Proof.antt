@@ -1,4 +1,5 @@
--- `word::paste` meets its contract. The invariant: the bytes that are left, written over what there is, give what is to be.
+-- `word::paste` meets its contract. The invariant: the bytes that are left, written over what there is, give what is to
+-- be.
 -- Assumes nothing.
 use Prim.Native.Nat.{_+_, _-_, _≤_}
 use mathlib.Core.Path.{_≡_, refl, ap, _∙_}
@@ -31,7 +32,8 @@ loop-again c =
     let a = p .before .before .before .before .before .before .before .args in
     let i = l .i in
     let src = now (a .src) in
-    let e : p .put-piece .last .0 ≡ over (l .s) (a .at + i) (part src i 512) = p .put-piece .ensures ∙ ap (over (l .s) (a .at + i)) (p .before .piece .ensures) in
+    let e : p .put-piece .last .0 ≡ over (l .s) (a .at + i) (part src i 512) = p .put-piece .ensures
+    ∙ ap (over (l .s) (a .at + i)) (p .before .piece .ensures) in
     let h : i + 512 ≤ length src = omega arith in (
       h,
       rw e (length-over (l .s) (a .at + i) (part src i 512) (rw (length-part src i 512 h) (omega arith)) ∙ l .inv .1),
@@ -43,7 +45,7 @@ returns c =
     let p = c .before .before in
     let l = p .before .before .before .before .loop in
     let a = p .before .before .before .before .before .before .before .args in
-    p .paste-bytes .ensures ∙ rw (lent-rest (now (a .src)) (l .i)) (l .inv .2)
+    p .paste-rest .ensures ∙ rw (lent-rest (now (a .src)) (l .i)) (l .inv .2)
 
 pub paste-spec : {M : Type 1} → statement M
 paste-spec =

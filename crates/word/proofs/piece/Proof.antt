@@ -1,4 +1,5 @@
--- `word::piece` meets its contract. The invariant: the bytes that are left, stored into what there is, give what is to be.
+-- `word::piece` meets its contract. The invariant: the bytes that are left, stored into what there is, give what is to
+-- be.
 -- Assumes nothing.
 use Prim.Native.Nat.{_+_, _-_, _≤_}
 use mathlib.Core.Path.{_≡_, _∙_}
@@ -30,7 +31,8 @@ loop-again c =
     let a = c .before .before .before .args in (
       search needs,
       rw length-set (l .inv .1),
-      store-one _ _ _ _ ∙ rw (part-left (now (a .src)) (a .from) 512 (l .i) (c .before .loop-test .taken) (omega arith)) at (l .inv .2),
+      store-one _ _ _ _ ∙ rw (part-left (now (a .src)) (a .from) 512 (l .i) (c .before .loop-test .taken)
+          (omega arith)) at (l .inv .2),
     )
 
 returns : tie.Need-returns Inv-loop μ-loop

@@ -1,4 +1,5 @@
--- `word::put_piece` meets its contract. The invariant: the bytes that are left, stored into what there is, give what is to be.
+-- `word::put_piece` meets its contract. The invariant: the bytes that are left, stored into what there is, give what is
+-- to be.
 -- Assumes nothing.
 use Prim.Native.Nat.{_+_, _-_, _≤_}
 use mathlib.Core.Path.{_≡_, refl, _∙_}
@@ -11,7 +12,8 @@ use Rattle.word.proofs.put_piece.Statement.{statement}
 use Rattle.word.proofs.put_piece.Tie as tie
 
 abbrev Inv-loop : tie.InvT-loop
-Inv-loop s₀ at block i₀ s i = (i ≤ 512) × (length s ≡ length s₀) × (storing s (at + i) (drop i block) ≡ storing s₀ at block)
+Inv-loop s₀ at block i₀ s i = (i ≤ 512) × (length s ≡ length s₀)
+    × (storing s (at + i) (drop i block) ≡ storing s₀ at block)
 
 abbrev μ-loop : tie.MeasureT-loop
 μ-loop s₀ at block i₀ s i = 512 - i
@@ -24,12 +26,19 @@ loop-holds c = (search needs, refl, rw add-zero)
 
 loop-again : tie.Need-loop-again Inv-loop μ-loop
 loop-again c =
-    let l = c .before .loop in
-    (search needs, rw length-set (l .inv .1), store-turn _ _ _ _ _ ∙ rw (drop-turn (c .before .before .args .t3) (l .i) (omega (arith, long (c .before)))) at (l .inv .2))
+    let l = c .before .loop in (
+      search needs,
+      rw length-set (l .inv .1),
+      store-turn _ _ _ _ _
+          ∙ rw (drop-turn (c .before .before .args .t3) (l .i) (omega (arith, long (c .before)))) at (l .inv .2),
+    )
 
 returns : tie.Need-returns Inv-loop μ-loop
 returns c =
-    (rw (drop-of-length-le (c .before .before .args .t3) {i = c .before .loop .i} (omega (arith, long (c .before))), store-end) at (c .before .loop .inv .2))
+    (rw (
+      drop-of-length-le (c .before .before .args .t3) {i = c .before .loop .i} (omega (arith, long (c .before))),
+      store-end,
+    ) at (c .before .loop .inv .2))
     ∙ stored _ _ _ (omega (arith, long (c .before)))
 
 pub put-piece-spec : {M : Type 1} → statement M

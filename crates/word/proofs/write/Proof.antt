@@ -1,4 +1,5 @@
--- `word::write` meets its contract. The invariant: the bytes that are left, stored into what there is, give what is to be.
+-- `word::write` meets its contract. The invariant: the bytes that are left, stored into what there is, give what is to
+-- be.
 -- Assumes nothing.
 use Prim.Native.Nat.{_+_, _-_, _≤_}
 use mathlib.Core.Path.{_≡_, refl, _∙_}
@@ -24,8 +25,12 @@ loop-holds c = (search needs, refl, rw (add-zero, sub-zero))
 
 loop-again : tie.Need-loop-again Inv-loop μ-loop
 loop-again c =
-    let l = c .before .loop in
-    (search needs, rw length-set (l .inv .1), store-turn _ _ _ _ _ ∙ rw (bytesOf-turn _ _ _ (c .loop-test .taken)) at (l .inv .2))
+    let l = c .before .loop in (
+      search needs,
+      rw length-set (l .inv .1),
+      store-turn _ _ _ _ _
+          ∙ rw (bytesOf-turn _ _ _ (c .loop-test .taken)) at (l .inv .2),
+    )
 
 returns : tie.Need-returns Inv-loop μ-loop
 unfolding bytesOf

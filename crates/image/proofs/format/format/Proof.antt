@@ -1,4 +1,5 @@
--- `image::format::format` meets its contract: it refuses where the definition does, and else its three writes make the fresh image.
+-- `image::format::format` meets its contract: it refuses where the definition does, and else its three writes make the
+-- fresh image.
 -- Assumes nothing.
 use mathlib.Core.Path.{_≡_, sym, _∙_}
 use mathlib.Core.Bool.{true, false, and-false}
@@ -14,7 +15,8 @@ right c = sym (c .before .before .number-right .ensures) ∙ not-false _ (c .bef
 
 returns : tie.Need-returns
 returns c =
-    let e : numberRight (c .before .before .before .args .n) ≡ false = sym (c .before .number-right .ensures) ∙ not-true _ (c .if1 .taken) in
+    let e : numberRight (c .before .before .before .args .n) ≡ false = sym (c .before .number-right .ensures)
+    ∙ not-true _ (c .if1 .taken) in
     refused _ _ (rw e)
 
 returns-2 : tie.Need-returns-2
@@ -33,7 +35,8 @@ returns-3 c =
     let w = c .before .before in
     let f = w .before .before .before .before in
     let k = f .before .before .before .before in
-    rw (w .write-trailer .ensures, f .fill .ensures, k .clear .ensures) (formatted _ _ (right (k .before .before)) (k .before .before .if2 .left))
+    rw (w .write-trailer .ensures, f .fill .ensures, k .clear .ensures)
+    (formatted _ _ (right (k .before .before)) (k .before .before .if2 .left))
 
 pub format-spec : {M : Type 1} → statement M
 format-spec =

@@ -8,7 +8,8 @@ use Rattle.image.proofs.header.good_header.Statement.{statement}
 use Rattle.image.proofs.header.good_header.Tie as tie
 
 returns : tie.Need-returns
-returns c = c .is-zero .ensures ∙ rw (part-whole _ 64 (c .before .before .before .pre .0), c .before .if1 .taken) (good-free _ _ _)
+returns c = c .is-zero .ensures ∙ rw (part-whole _ 64 (c .before .before .before .pre .0), c .before .if1 .taken)
+    (good-free _ _ _)
 
 returns-2 : tie.Need-returns-2
 returns-2 c = c .used-right .ensures ∙ rw (c .before .if1 .left) (good-used _ _ _)

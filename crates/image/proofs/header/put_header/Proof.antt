@@ -17,7 +17,16 @@ returns c =
     let c7 = c6 .before .before .before .before in
     let c8 = c7 .before .before .before .before .before in
     let p = c8 .before .before .before .before .before .pre in
-    rw (c1 .clear2 .ensures, c2 .paste .ensures, c3 .put643 .ensures, c4 .put642 .ensures, c5 .put64 .ensures, c6 .clear .ensures, c7 .put82 .ensures, c8 .put8 .ensures)
+    rw (
+      c1 .clear2 .ensures,
+      c2 .paste .ensures,
+      c3 .put643 .ensures,
+      c4 .put642 .ensures,
+      c5 .put64 .ensures,
+      c6 .clear .ensures,
+      c7 .put82 .ensures,
+      c8 .put8 .ensures,
+    )
     (header-written _ _ _ _ _ _ _ (omega (arith, p .0)) (p .2))
 
 pub put-header-spec : {M : Type 1} → statement M

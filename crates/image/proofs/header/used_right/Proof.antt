@@ -16,7 +16,8 @@ returns c = bad-shape _ _ _ (sym (c .before .shape-right .ensures) ∙ not-true 
 returns-2 : tie.Need-returns-2
 returns-2 c =
     let p = c .before .before in
-    bad-times _ _ _ (sym (p .before .shape-right .ensures) ∙ not-false _ (p .if1 .left)) (sym (c .before .times-right .ensures) ∙ not-true _ (c .if2 .taken))
+    bad-times _ _ _ (sym (p .before .shape-right .ensures)
+    ∙ not-false _ (p .if1 .left)) (sym (c .before .times-right .ensures) ∙ not-true _ (c .if2 .taken))
 
 make-requires : tie.Need-make-requires
 make-requires c κs =
@@ -30,8 +31,10 @@ returns-3 c =
     let k = g .before .before in
     let q = k .before in
     let p = q .before .before in
-    by-id _ _ _ (sym (p .before .shape-right .ensures) ∙ not-false _ (p .if1 .left)) (sym (q .before .times-right .ensures) ∙ not-false _ (q .if2 .left))
-    _ _ _ (g .get64 .ensures) (ap (λ (t : Tick). t .0) (k .created .ensures)) (ap (λ (i : Id). i .0) (g .before .make .ensures))
+    by-id _ _ _ (sym (p .before .shape-right .ensures)
+    ∙ not-false _ (p .if1 .left)) (sym (q .before .times-right .ensures) ∙ not-false _ (q .if2 .left))
+    _ _ _ (g .get64 .ensures) (ap (λ (t : Tick). t .0) (k .created .ensures))
+    (ap (λ (i : Id). i .0) (g .before .make .ensures))
 
 pub used-right-spec : {M : Type 1} → statement M
 used-right-spec =

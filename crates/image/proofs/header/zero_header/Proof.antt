@@ -10,4 +10,5 @@ unfolding puts
 returns c = c .before .before .clear .ensures
 
 pub zero-header-spec : {M : Type 1} → statement M
-zero-header-spec = tie.close (tie.spec (λ c. search needs) (λ c. search needs) (λ c κs. search needs) (λ c. search needs) returns)
+zero-header-spec = tie.close
+    (tie.spec (λ c. search needs) (λ c. search needs) (λ c κs. search needs) (λ c. search needs) returns)

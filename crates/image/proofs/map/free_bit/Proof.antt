@@ -1,27 +1,24 @@
--- `image::map::free_bit` meets its contract: a used block's bit is 0, so its weight fits into the byte.
+-- `image::map::free_bit` meets its contract: the byte that is written is the sum's low byte.
 -- Assumes nothing.
-use Prim.Native.Nat.{_/_, _%_, _^_}
+use Prim.Native.Nat.{ℕ, _%_}
 use mathlib.Core.Path.{_≡_}
 use native.Mathlib.Omega.{arith}
 use borrow.Author.Needs.{needs}
+use Rattle.word.specs.Word.{bytesOf}
 use Rattle.word.specs.Write.{puts}
-use Rattle.promise.specs.Map.{free}
-use Rattle.image.proofs.Bits.{bit-zero, bit-fits}
 use Rattle.image.proofs.map.free_bit.Statement.{statement}
 use Rattle.image.proofs.map.free_bit.Tie as tie
 
-add-put8 : tie.Need-add-put8
-unfolding free
-add-put8 c =
-    let s = c .before .before .before .before .before .before in
-    let g = c .before .before .get8 in
-    let i = s .args .b .0 % 8 in
-    let z : g .result / 2 ^ i % 2 ≡ 0 = rw (g .ensures) (bit-zero _ (s .pre .2)) in
-    omega (arith, bit-fits i 8 (g .result) (omega arith) (omega arith) z)
+low-byte : (x : ℕ) → bytesOf 1 (x % 256) ≡ bytesOf 1 x
+unfolding bytesOf
+low-byte x = let e : x % 256 % 256 ≡ x % 256 = omega arith in rw e
 
 returns : tie.Need-returns
 unfolding puts
-returns c = cc
+returns c =
+    let p = c .before .before in
+    let w = p .before .before in
+    rw (p .put8 .ensures, w .weight .ensures, w .before .get8 .ensures) (rw low-byte)
 
 pub free-bit-spec : {M : Type 1} → statement M
 free-bit-spec =
@@ -31,8 +28,11 @@ free-bit-spec =
     (λ c. search needs)
     (λ c. search needs)
     (λ c κs. search needs)
+    (λ c. search needs)
     (λ c κs. search needs)
-    add-put8
+    (λ c. search needs)
+    (λ c. search needs)
+    (λ c. search needs)
     (λ c κs. search needs)
     (λ c. search needs)
     returns)

@@ -10,4 +10,5 @@ unfolding spareZero
 returns c = c .is-zero .ensures
 
 pub spare-zero-spec : {M : Type 1} → statement M
-spare-zero-spec = tie.close (tie.spec (λ c. search needs) (λ c. search needs) (λ c. search needs) (λ c κs. search needs) returns)
+spare-zero-spec = tie.close
+    (tie.spec (λ c. search needs) (λ c. search needs) (λ c. search needs) (λ c κs. search needs) returns)

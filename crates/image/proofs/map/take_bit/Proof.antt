@@ -4,13 +4,14 @@ use borrow.Author.Needs.{needs}
 use borrow.Author.Tests.{eqb-true}
 use Rattle.word.specs.Write.{puts}
 use Rattle.promise.specs.Map.{free}
-use Rattle.image.proofs.Bits.{bit-le}
+use Rattle.word.specs.Bits.{bit-le}
 use Rattle.image.proofs.map.take_bit.Statement.{statement}
 use Rattle.image.proofs.map.take_bit.Tie as tie
 
 sub-put8 : tie.Need-sub-put8
 unfolding free
-sub-put8 c = rw (c .weight .ensures, c .before .before .get8 .ensures) (bit-le _ _ (eqb-true _ _ (c .before .before .before .before .before .before .pre .2)))
+sub-put8 c = rw (c .weight .ensures, c .before .before .get8 .ensures)
+    (bit-le _ _ (eqb-true _ _ (c .before .before .before .before .before .before .pre .2)))
 
 returns : tie.Need-returns
 unfolding puts

@@ -19,7 +19,8 @@ returns-2 : tie.Need-returns-2
 returns-2 c =
     let s = c .before in
     let v = s .before .before .before in
-    bad-spare _ _ (v .before .before .before .pre .its-n) (sym (v .visit-all .ensures .0) ∙ not-false _ (s .before .if1 .left)) (sym (s .spare-zero .ensures) ∙ not-true _ (c .if2 .taken))
+    bad-spare _ _ (v .before .before .before .pre .its-n) (sym (v .visit-all .ensures .0)
+    ∙ not-false _ (s .before .if1 .left)) (sym (s .spare-zero .ensures) ∙ not-true _ (c .if2 .taken))
 
 returns-3 : tie.Need-returns-3
 returns-3 c =
@@ -28,7 +29,9 @@ returns-3 c =
     let v = s .before .before .before in
     let r = not-false _ (s .before .if1 .left) in
     c .same-counts .ensures
-    ∙ by-counts _ _ (v .before .before .before .pre .its-n) (sym (v .visit-all .ensures .0) ∙ r) (sym (s .spare-zero .ensures) ∙ not-false _ (q .if2 .left)) (v .visit-all .last .1 .1 .1 .0) (v .visit-all .ensures .1 r .1)
+    ∙ by-counts _ _ (v .before .before .before .pre .its-n) (sym (v .visit-all .ensures .0)
+    ∙ r) (sym (s .spare-zero .ensures) ∙ not-false _ (q .if2 .left)) (v .visit-all .last .1 .1 .1 .0)
+    (v .visit-all .ensures .1 r .1)
 
 pub body-sound-spec : {M : Type 1} → statement M
 body-sound-spec =

@@ -7,7 +7,8 @@ use Rattle.image.proofs.sound.check.Statement.{statement}
 use Rattle.image.proofs.sound.check.Tie as tie
 
 body-sound-requires : tie.Need-body-sound-requires
-body-sound-requires c κs = told-known _ _ _ (sym (c .before .before .before .read-trailer .ensures) ∙ c .before .t .given .1)
+body-sound-requires c κs = told-known _ _ _ (sym (c .before .before .before .read-trailer .ensures)
+    ∙ c .before .t .given .1)
 
 returns : tie.Need-returns
 returns c = told-bad _ (sym (c .before .before .read-trailer .ensures) ∙ c .enum-told .given .1)

@@ -13,4 +13,5 @@ returns c = cc
 
 pub same-count-spec : {M : Type 1} → statement M
 same-count-spec =
-    tie.close (tie.spec (λ c. search needs) (λ c. search needs) (λ c. search needs) cast-t (λ c κs. search needs) returns)
+    tie.close (tie.spec (λ c. search needs) (λ c. search needs) (λ c. search needs) cast-t
+    (λ c κs. search needs) returns)

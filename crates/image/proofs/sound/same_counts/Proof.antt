@@ -1,4 +1,5 @@
--- `image::sound::same_counts` meets its contract. The invariant: the answer is the answer for the clients that are left.
+-- `image::sound::same_counts` meets its contract. The invariant: the answer is the answer for the clients that are
+-- left.
 -- Assumes nothing.
 use Prim.Native.Nat.{_+_}
 use mathlib.Core.Path.{_≡_, refl, sym, _∙_}
@@ -11,7 +12,8 @@ use Rattle.image.proofs.sound.same_counts.Statement.{statement}
 use Rattle.image.proofs.sound.same_counts.Tie as tie
 
 abbrev Inv-loop : tie.InvT-loop
-Inv-loop img n tally u₀ left₀ u left = (u + left ≡ 64) × (allOf (sameCount n img tally) u left ≡ allOf (sameCount n img tally) 0 64)
+Inv-loop img n tally u₀ left₀ u left = (u + left ≡ 64)
+    × (allOf (sameCount n img tally) u left ≡ allOf (sameCount n img tally) 0 64)
 
 abbrev μ-loop : tie.MeasureT-loop
 μ-loop img n tally u₀ left₀ u left = left
@@ -22,14 +24,16 @@ loop-holds c = (search needs, refl)
 returns : tie.Need-returns Inv-loop μ-loop
 returns c =
     let l = c .before .before .before in
-    all-stop _ (l .loop .u) (l .loop .left) (c .before .before .loop-test .taken) (sym (c .before .same-count .ensures) ∙ not-true _ (c .if1 .taken))
+    all-stop _ (l .loop .u) (l .loop .left) (c .before .before .loop-test .taken) (sym (c .before .same-count .ensures)
+    ∙ not-true _ (c .if1 .taken))
     ∙ l .loop .inv .1
 
 loop-again : tie.Need-loop-again Inv-loop μ-loop
 loop-again c =
     let l = c .before .before .before in (
       search needs,
-      all-turn _ (l .loop .u) (l .loop .left) (c .before .before .loop-test .taken) (sym (c .before .same-count .ensures) ∙ not-false _ (c .if1 .left))
+      all-turn _ (l .loop .u) (l .loop .left) (c .before .before .loop-test .taken)
+          (sym (c .before .same-count .ensures) ∙ not-false _ (c .if1 .left))
           ∙ l .loop .inv .1,
     )
 

@@ -13,10 +13,12 @@ returns-2 : tie.Need-returns-2
 returns-2 c =
     let p = c .before .before in
     let q = p .before in
-    answer-right _ _ (q .before .before .if1 .left) refl (sym (q .right-trailer .ensures) ∙ p .if2 .taken) _ _ (c .before .get32 .ensures) (c .get64 .ensures)
+    answer-right _ _ (q .before .before .if1 .left) refl (sym (q .right-trailer .ensures)
+    ∙ p .if2 .taken) _ _ (c .before .get32 .ensures) (c .get64 .ensures)
 
 returns-3 : tie.Need-returns-3
-returns-3 c = answer-bad _ _ (c .before .before .before .if1 .left) refl (sym (c .before .right-trailer .ensures) ∙ c .if2 .left)
+returns-3 c = answer-bad _ _ (c .before .before .before .if1 .left) refl (sym (c .before .right-trailer .ensures)
+    ∙ c .if2 .left)
 
 pub read-trailer-spec : {M : Type 1} → statement M
 read-trailer-spec =

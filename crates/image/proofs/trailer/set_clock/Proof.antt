@@ -11,4 +11,5 @@ returns c = c .before .before .put64 .ensures
 
 pub set-clock-spec : {M : Type 1} → statement M
 set-clock-spec =
-    tie.close (tie.spec (λ c. search needs) (λ c. search needs) (λ c. search needs) (λ c κs. search needs) (λ c. search needs) returns)
+    tie.close (tie.spec (λ c. search needs) (λ c. search needs) (λ c. search needs) (λ c κs. search needs)
+    (λ c. search needs) returns)

@@ -1,0 +1,12 @@
+pub mod TrailerLaws
+pub mod HeaderLaws
+pub mod RefusalLaws
+pub mod KeyLaws
+pub mod CallLaws
+pub mod Laws
+pub mod FreshLaws
+pub mod ScavengeLaws
+pub mod RowLaws
+pub mod FieldLaws
+pub mod GoodLaws
+pub mod CountLaws
