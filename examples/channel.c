@@ -1,0 +1,49 @@
+/* A channel of a recorder stores three blocks and lists them one at a time, while a clean-up falls between two steps.
+ *
+ *     cc -std=c11 -Wall -Iinclude examples/channel.c target/staticlib/libzolvortug.a -o channel && ./channel
+ */
+#include <inttypes.h>
+#include <stdio.h>
+#include <stdlib.h>
+#include <string.h>
+
+#include "zolvortug.h"
+
+/* Each operation costs 10, an error 1, and a block 2 for each tick that it is kept. */
+static const zolvortug_tariff prices = {10, 10, 10, 10, 10, 10, 10, 10, 10, 10, 1, 2};
+
+int main(void)
+{
+    const uint32_t channel = 3, manager = 0;
+    size_t size = zolvortug_size(8);
+    uint8_t *image = malloc(size);
+    if (image == NULL || zolvortug_format(8, image, size) != ZOLVORTUG_SUCCESS)
+        return 1;
+
+    /* Three blocks, created at 1, 2 and 3, to expire at 10, 200 and 300. */
+    const uint64_t expiry[3] = {10, 200, 300};
+    for (uint64_t i = 0; i < 3; i++) {
+        uint8_t bytes[ZOLVORTUG_BLOCK];
+        memset(bytes, (int)i, sizeof bytes);
+        zolvortug_created c = zolvortug_create(prices, channel, expiry[i], bytes, sizeof bytes, i + 1, image, size);
+        printf("create   report %u, charge %" PRId64 ", id %016" PRIx64 "\n", c.report, c.charge, c.id);
+    }
+
+    /* One id a step. After the first step the block that it named has expired and is cleaned up. */
+    zolvortug_walk walk = zolvortug_walk_from(channel, 1);
+    for (int step = 0; !walk.ended; step++) {
+        uint8_t id[8];
+        zolvortug_stepped s = zolvortug_walk_step(prices, &walk, id, sizeof id, image, size);
+        printf("step     report %u, named %u", s.report, s.entries);
+        for (uint32_t i = 8 * s.entries; i-- > 0;)
+            printf(i == 8 * s.entries - 1 ? ": %02x" : "%02x", id[i]);
+        printf(s.key == ZOLVORTUG_END_KEY ? ", the end\n" : ", key %u\n", s.key);
+        if (step == 0) {
+            zolvortug_scavenged g = zolvortug_scavenge(prices, manager, ZOLVORTUG_START_KEY, 50, image, size);
+            printf("scavenge report %u, removed %u\n", g.report, g.count);
+        }
+    }
+    printf("check    %s\n", zolvortug_check(image, size) ? "sound" : "not sound");
+    free(image);
+    return 0;
+}
