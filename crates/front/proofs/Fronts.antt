@@ -96,8 +96,7 @@ known img n clock h p q =
     record {
       laid = record {
         number = rw p at (r .number);
-        size = r .size
-            ∙ ap sizeOf p;
+        size = r .size ∙ ap sizeOf p;
       };
       its-n = p;
       its-clock = q;
@@ -156,8 +155,7 @@ is-timely img expiry time ws e =
         begun = f .0;
         time-fits = f .1;
         expiry-fits = expiry-fits expiry (u .1);
-        later = is-later img time
-            (v .0);
+        later = is-later img time (v .0);
       },
       v .1,
     )

@@ -83,8 +83,7 @@ module _ (img : List ℕ) (n : ℕ) (clock : Tick) (e : trailerAnswer img ≡ Ri
       record {
         laid = record {
           number = rw p at (r .number);
-          size = r .size
-              ∙ ap sizeOf p;
+          size = r .size ∙ ap sizeOf p;
         };
         its-n = p;
         its-clock = q;

@@ -140,8 +140,7 @@ module _ (img : List ℕ) (client key : ℕ) (buffer : List ℕ) where
             → a ≡ record {
               receipt = receipt Success (profileCharge t);
               key = keyAt n (key + m);
-              entries = length
-                  (picked (used img) key m);
+              entries = length (picked (used img) key m);
             }
             → buffer′ ≡ over buffer 0 (rows (profileRow img) (picked (used img) key m))
             → ProfilePromise t img client key buffer a buffer′

@@ -62,8 +62,7 @@ fit n key count room z =
       below = leb-false n key (a .0);
       some = k .0;
       few = k .1;
-      fits = omega
-          (arith, ltb-false room (8 * count) (c .0));
+      fits = omega (arith, ltb-false room (8 * count) (c .0));
     }
 
 -- ---- one block
@@ -158,8 +157,7 @@ module _ (img : List ℕ) (client key count : ℕ) (ids : List ℕ) where
               → a ≡ record {
                 receipt = receipt Success (getIdsCharge t);
                 key = keyAt n (key + visited);
-                entries = length
-                    (picked (ownedBy img client) key visited);
+                entries = length (picked (ownedBy img client) key visited);
               }
               → ids′ ≡ over ids 0 (rows (idRow img) (picked (ownedBy img client) key visited))
               → GetIdsPromise t img client key count ids a ids′

@@ -244,8 +244,7 @@ module _ (img : List ℕ) (client key time : ℕ) where
             → a ≡ record {
               receipt = receipt Success (scavengeCharge t);
               key = keyAt n (key + m);
-              count = length
-                  (picked (marked marks key) key m);
+              count = length (picked (marked marks key) key m);
             }
             → img′ ≡ removedBy n time marks tally key m img
             → ScavengePromise t img client key time a img′

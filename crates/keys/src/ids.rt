@@ -114,8 +114,7 @@ fn give_ids(
     ensures answer { λ r. ⌜ r ≡ record {
       receipt = receipt Success (getIdsCharge t);
       key = keyAt n (from + visited);
-      entries = length
-          (picked (ownedBy (now (img .entry)) (client .0)) from visited);
+      entries = length (picked (ownedBy (now (img .entry)) (client .0)) from visited);
     } ⌝ }
     ensures bytes { λ r. ⌜ now (ids .exit) ≡ over (now (ids .entry)) 0
         (rows (idRow (now (img .entry))) (picked (ownedBy (now (img .entry)) (client .0)) from visited)) ⌝ }

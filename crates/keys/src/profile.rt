@@ -104,8 +104,7 @@ fn give_profile(
     ensures answer { λ r. ⌜ r ≡ record {
       receipt = receipt Success (profileCharge t);
       key = keyAt n (from + visited);
-      entries = length
-          (picked (used (now (img .entry))) from visited);
+      entries = length (picked (used (now (img .entry))) from visited);
     } ⌝ }
     ensures bytes { λ r. ⌜ now (buffer .exit)
         ≡ over (now (buffer .entry)) 0

@@ -296,8 +296,7 @@ fn give_scavenge(
     ensures answer { λ r. ⌜ r ≡ record {
       receipt = receipt Success (scavengeCharge t);
       key = keyAt n (from + visited);
-      count = length
-          (picked (marked (now (marks .entry)) from) from visited);
+      count = length (picked (marked (now (marks .entry)) from) from visited);
     } ⌝ }
     ensures image { λ r. ⌜ now (img .exit) ≡ removedBy n (time .0) (now (marks .entry))
         (now (tally .entry)) from visited

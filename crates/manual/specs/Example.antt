@@ -48,6 +48,5 @@ third = record { blocks = put (second .blocks) 24 (block 3 6 90); newids = later
 abbrev pub fourth : SS
 fourth = record {
   blocks = (KeySet k 4 ∖ KeySet k 0) ∩ expired 7 (third .blocks) ⩤ third .blocks;
-  newids = later k 7
-      (third .newids);
+  newids = later k 7 (third .newids);
 }

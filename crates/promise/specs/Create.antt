@@ -75,8 +75,7 @@ createAnswer t img client expiry bytes time =
     when (succeeds r)
     (record {
       receipt = receipt Success (createCharge t time (laterOf time expiry));
-      id = ident
-          (idOf time (lowestFree img));
+      id = ident (idOf time (lowestFree img));
     })
     (record { receipt = refusal t r; id = ident nullId })
 

@@ -48,8 +48,7 @@ profileAnswer t img client key buffer =
     (record {
       receipt = receipt Success (profileCharge t);
       key = keyAt (nOf img) (key + reach img key);
-      entries = length
-          (profiled img key);
+      entries = length (profiled img key);
     })
     (record { receipt = refusal t r; key = key; entries = 0 })
 

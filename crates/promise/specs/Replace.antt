@@ -49,8 +49,7 @@ replaceWrites img client id bytes time =
     ∷ record { at = dataAt n b; bytes = part bytes 16 512 }
     ∷ record {
       at = headerAt b;
-      bytes = headerBytes client (idOf time b) time (replaceExpires img id)
-          (part bytes 0 16);
+      bytes = headerBytes client (idOf time b) time (replaceExpires img id) (part bytes 0 16);
     }
     ∷ []
 

@@ -33,14 +33,14 @@ gone img key time = picked (expired img time) key (reach img key)
 
 -- of these, how many one owner loses
 unfoldable pub goneOf : List ℕ → (key time u : ℕ) → ℕ
-goneOf img key time u = length (picked (λ b. expired img time b
-    && eqb (ownerOf (headerOf img b)) u) key (reach img key))
+goneOf img key time u =
+    length (picked (λ b. expired img time b && eqb (ownerOf (headerOf img b)) u) key (reach img key))
 
 -- 9: a visited header is not good, or Scavenge would take a count below 0
 unfoldable pub scavengeDamaged : List ℕ → (key time : ℕ) → Bool
 scavengeDamaged img key time =
-    not (visitedGood img key (reach img key)) || not
-    (allOf (λ u. leb (goneOf img key time u) (countOf (nOf img) img u)) 0 64)
+    not (visitedGood img key (reach img key))
+    || not (allOf (λ u. leb (goneOf img key time u) (countOf (nOf img) img u)) 0 64)
 
 unfoldable pub scavengeRows : List ℕ → (client key time : ℕ) → List Row
 scavengeRows img client key time =
@@ -81,8 +81,7 @@ scavengeAnswer t img client key time =
     (record {
       receipt = receipt Success (scavengeCharge t);
       key = keyAt (nOf img) (key + reach img key);
-      count = length
-          (gone img key time);
+      count = length (gone img key time);
     })
     (record { receipt = refusal t r; key = key; count = 0 })
 

@@ -50,8 +50,7 @@ setExpiryAnswer t img client id expiry time =
     let h : List ℕ = headerFor img id in
     when (succeeds r)
     (record {
-      receipt = receipt Success
-          (setExpiryCharge t (createdOf h) (expiresOf h) (createdOf h) (laterOf time expiry));
+      receipt = receipt Success (setExpiryCharge t (createdOf h) (expiresOf h) (createdOf h) (laterOf time expiry));
     })
     (record { receipt = refusal t r })
 

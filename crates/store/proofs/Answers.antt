@@ -103,8 +103,7 @@ sighted img client id room n b e =
       its-room = f .0;
       its-n = w .1;
       its-b = w .2;
-      known = known img n
-          (clockOf img) (a .0 .trailer) (w .1) refl;
+      known = known img n (clockOf img) (a .0 .trailer) (w .1) refl;
     }
 
 pub header-within : (img : List ℕ) (client id : ℕ) (room : Bool) (n : ℕ) (b : BlockNum)

@@ -48,8 +48,7 @@ listed a = record {
   charge = a .receipt .charge;
   key = a .key;
   entries = a .entries;
-  report = numberOf
-      (a .receipt .report);
+  report = numberOf (a .receipt .report);
 }
 
 abbrev pub counted : GetCountAnswer → Counted
@@ -60,8 +59,7 @@ scavenged a = record {
   charge = a .receipt .charge;
   key = a .key;
   count = a .count;
-  report = numberOf
-      (a .receipt .report);
+  report = numberOf (a .receipt .report);
 }
 
 abbrev pub profiled : ProfileAnswer → Listed
@@ -69,8 +67,7 @@ profiled a = record {
   charge = a .receipt .charge;
   key = a .key;
   entries = a .entries;
-  report = numberOf
-      (a .receipt .report);
+  report = numberOf (a .receipt .report);
 }
 
 -- a step: the record after it, and its answer
@@ -80,6 +77,5 @@ stepped a w = record {
   charge = a .receipt .charge;
   key = a .key;
   entries = a .entries;
-  report = numberOf
-      (a .receipt .report);
+  report = numberOf (a .receipt .report);
 }
