@@ -60,9 +60,3 @@ module _ (xs ys : List Row) (n b : ℕ) where
       → Refused r ≡ soughtOf (lowest (xs ++ ys)) n b
   unfolding soughtOf
   refused-sought r e = let w = told-refused (lowest xs) n b r e in rw (stopped xs ys (w .0), w .0, w .1)
-
-  pub found-sought : rising 1 xs ≡ true → (m : ℕ) (a : BlockNum) → soughtOf (lowest xs) n b ≡ Found m a
-      → soughtOf (lowest ys) m (a .0) ≡ soughtOf (lowest (xs ++ ys)) n b
-  found-sought u m a e =
-      let w = told-found (lowest xs) n b m a e in
-      rw (passed 1 xs ys (omega arith) u (w .0), w .1, w .2)

@@ -304,9 +304,6 @@ word-bound k l at h =
     le-trans (le-bound (part l at k) (bytes-part l at k h))
     (pow-le-pow-right (lit< tt) (omega (arith, length-part-any l at k)))
 
-pub word-below : (m k : ℕ) (l : List ℕ) (at : ℕ) → Bytes l → k ≤ m → Spelled m (wordAt k l at)
-word-below m k l at h b = le-trans (word-bound k l at h) (pow-le-pow-right (lit< tt) b)
-
 -- the bytes at a place are the spelling of the number there
 pub word-bytes : (k : ℕ) (l : List ℕ) (at : ℕ) → Bytes l → at + k ≤ length l → bytesOf k (wordAt k l at) ≡ part l at k
 word-bytes k l at h f = rw (length-part l at k f) at (bytesOf-le (part l at k) (bytes-part l at k h))
