@@ -15,7 +15,8 @@ use Rattle.promise.specs.Sound.{Sound}
 use Rattle.promise.specs.Call.{Create, Destroy, Replace, GetIds, Scavenge, outcome}
 use Rattle.manual.specs.Sets.{_∈_}
 use Rattle.demands.specs.Demand3.{Walk, named, Throughout, listed, Demand3, last, more}
-use Rattle.demands.specs.Example.{prices, at, creates, id0, id1, bytes, id2, three, room}
+use Rattle.fourteen.specs.Table.{prices}
+use Rattle.demands.specs.Example.{at, creates, id0, id1, bytes, id2, three, room}
 use Rattle.demands.specs.WrongStores.{oldStore}
 use Rattle.demands.specs.Service.{Priced}
 use Rattle.demands.proofs.Demand2.{demand2, states}

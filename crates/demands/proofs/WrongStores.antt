@@ -45,7 +45,8 @@ use Rattle.demands.specs.Stored.{blocks}
 use Rattle.demands.specs.Demand1.{Among, Demand1}
 use Rattle.demands.specs.Demand2.{says, result, Obeys, Demand2}
 use Rattle.demands.specs.Demand3.{Walk, Begun, made, Demand3, last, more, here, on}
-use Rattle.demands.specs.Example.{prices, at, id0, bytes, room}
+use Rattle.fourteen.specs.Table.{prices}
+use Rattle.demands.specs.Example.{at, id0, bytes, room}
 use Rattle.demands.specs.WrongStores.{refusesAll, answersAlike, storesNothing, madeUpCount, endsAtN, scribbles}
 use Rattle.demands.specs.WrongStores.{givesMore, endsOnRefusal, ownerFirst, scavengesEqual, halfScavenge}
 use Rattle.demands.specs.WrongStores.{wipesData}

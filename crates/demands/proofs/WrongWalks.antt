@@ -24,7 +24,8 @@ use Rattle.promise.specs.Call.{GetIds, Outcome, outcome}
 use Rattle.promise.proofs.KeyLaws.{ids-move}
 use Rattle.demands.specs.Demand2.{result, idsIn, Demand2}
 use Rattle.demands.specs.Demand3.{asked, Walk, named, Demand3, last}
-use Rattle.demands.specs.Example.{prices, room}
+use Rattle.fourteen.specs.Table.{prices}
+use Rattle.demands.specs.Example.{room}
 use Rattle.demands.specs.WrongStores.{stopsAtNothing, namesAllAtOnce, visitsAll}
 use Rattle.demands.proofs.Slots.{most}
 use Rattle.demands.proofs.Keyed.{all-good}

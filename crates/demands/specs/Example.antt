@@ -3,28 +3,12 @@ use Prim.Native.Nat.{ℕ}
 use mathlib.Core.List.{List, [], _∷_}
 use lib.ListN.{replicate}
 use Rattle.ident.specs.Ident.{idOf}
-use Rattle.tariff.specs.declared.Tariff.{Tariff}
 use Rattle.promise.specs.Format.{freshImage}
 use Rattle.promise.specs.Call.{Call, Create, outcome}
+use Rattle.fourteen.specs.Table.{prices}
 use Rattle.demands.specs.Service.{Priced, priced, after}
 
-abbrev pub prices : Tariff
-prices =
-    record {
-      create = 10;
-      read = 10;
-      status = 10;
-      destroy = 10;
-      replace = 10;
-      setexpiry = 10;
-      getids = 10;
-      getcount = 10;
-      scavenge = 10;
-      profile = 10;
-      error = 1;
-      rate = 2;
-    }
-
+-- at the prices of document 01's fourteen calls
 abbrev pub at : Call → Priced
 at c = priced prices c
 

@@ -7,8 +7,11 @@ use Rattle.kinds.specs.declared.Report.the-variants.{NotManager, BadKey, BadCou
 use Rattle.promise.specs.Refusals.{Row, row, notManager, badCount}
 
 abbrev pub idsRows : (n key count room : ℕ) → List Row
-idsRows n key count room = row (leb n key) BadKey ∷ row (badCount count) BadCount ∷ row
-    (ltb room (8 * count)) BadRoom ∷ []
+idsRows n key count room =
+    row (leb n key) BadKey
+    ∷ row (badCount count) BadCount
+    ∷ row (ltb room (8 * count)) BadRoom
+    ∷ []
 
 -- of Scavenge, which is lent no buffer, and of Profile
 abbrev pub managerRows : (n client key : ℕ) (small : Bool) → List Row

@@ -35,8 +35,11 @@ lookupOf img id = when (lookupDamaged img id) Broken (when (noSuchBlock img id) 
 
 -- room: the lent buffer is of 528 bytes, or none is wanted
 unfoldable pub findRows : List ℕ → (id : ℕ) → (room : Bool) → List Row
-findRows img id room = row (not room) BadRoom ∷ row (lookupDamaged img id) Damaged ∷ row
-    (noSuchBlock img id) NoSuchBlock ∷ []
+findRows img id room =
+    row (not room) BadRoom
+    ∷ row (lookupDamaged img id) Damaged
+    ∷ row (noSuchBlock img id) NoSuchBlock
+    ∷ []
 
 unfoldable pub ownRows : List ℕ → (client id : ℕ) → (room : Bool) → List Row
 ownRows img client id room = findRows img id room ++ (row (notOwner img client id) NotOwner ∷ [])
@@ -44,8 +47,11 @@ ownRows img client id room = findRows img id room ++ (row (notOwner img client i
 -- ---- a free block looked for
 
 unfoldable pub placeRows : List ℕ → (room : Bool) → List Row
-placeRows img room = row (not room) BadRoom ∷ row (ltb (lowestFree img) (nOf img)
-    && not (good img (lowestFree img))) Damaged ∷ row (noSpace img) NoSpace ∷ []
+placeRows img room =
+    row (not room) BadRoom
+    ∷ row (ltb (lowestFree img) (nOf img) && not (good img (lowestFree img))) Damaged
+    ∷ row (noSpace img) NoSpace
+    ∷ []
 
 -- ---- N and the block where no row applies
 

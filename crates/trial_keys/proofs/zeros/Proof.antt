@@ -1,5 +1,6 @@
 -- `trial_keys::zeros` gives an array of its type's length. The law is for every length, so that no list of this one is
--- made. Assumes nothing.
+-- made.
+-- Assumes nothing.
 use Prim.Native.Nat.{ℕ}
 use mathlib.Core.Path.{_≡_, sym}
 use lib.ListN.{length, replicate, length-replicate}
