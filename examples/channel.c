@@ -34,6 +34,8 @@ int main(void)
     for (int step = 0; !walk.ended; step++) {
         uint8_t id[8];
         zolvortug_stepped s = zolvortug_walk_step(prices, &walk, id, sizeof id, image, size);
+        if (s.report != ZOLVORTUG_SUCCESS)
+            return 1;
         printf("step     report %u, named %u", s.report, s.entries);
         for (uint32_t i = 8 * s.entries; i-- > 0;)
             printf(i == 8 * s.entries - 1 ? ": %02x" : "%02x", id[i]);

@@ -5,11 +5,13 @@
  * steps.
  *
  * Memory is the caller's. The image and every buffer are lent for one call and not kept; nothing is allocated, and
- * nothing is called but memset and memmove. Calls on one image must not overlap in time. What one call is lent to read
- * and what it is lent to write must not overlap in memory. A length of 0 allows any pointer, NULL too.
+ * nothing is called but memset and memmove. While a call changes an image, no other call may use it; calls that only
+ * read it may overlap in time. What one call is lent to read and what it is lent to write must not overlap in memory. A
+ * length of 0 allows any pointer, NULL too.
  *
- * No input is forbidden. Every call ends with a report, for all bytes, numbers and lengths; a refused call changes no
- * byte of the image or of a buffer and costs the error price. All of this is proved; docs/PROMISES.md says where.
+ * No bytes, numbers or lengths are forbidden. Every call ends with a report, Check's with yes or no. A refused call
+ * changes no byte of the image or of a buffer; a refused operation costs the error price, and Format and Check are
+ * free. All of this is proved; docs/PROMISES.md says where. docs/MANUAL.md says more of all that follows.
  *
  * Link libzolvortug.a, which `rt staticlib zolvortug` writes to target/staticlib. It is for x86-64 Linux. */
 #ifndef ZOLVORTUG_H
@@ -63,7 +65,7 @@ typedef struct zolvortug_tariff {
 } zolvortug_tariff;
 
 /* Answers, by value. A charge is negative where money is given back. On a refusal all is 0 but the report, the charge,
- * which is the error price, and a key, which is the one received. */
+ * which is the error price, and a key or a walk, which is the one received. */
 typedef struct zolvortug_created { /* Create, Replace */
     uint64_t id;
     int64_t charge;
@@ -103,7 +105,8 @@ typedef struct zolvortug_scavenged { /* Scavenge: the key to go on with, and how
     uint8_t report;
 } zolvortug_scavenged;
 
-/* A walk over a client's ids, kept by its caller. Make one by zolvortug_walk_from, take steps until it has ended. */
+/* A walk over a client's ids, kept by its caller. Make one by zolvortug_walk_from, and take steps until it has ended or
+ * one is refused. One that was kept as bytes has 0 or 1 in `ended`, as every bool of C. */
 typedef struct zolvortug_walk {
     uint32_t client;
     uint32_t count;
@@ -156,8 +159,9 @@ zolvortug_done zolvortug_set_expiry(zolvortug_tariff t, uint32_t client, uint64_
 /* How many blocks the client owns. */
 zolvortug_counted zolvortug_get_count(zolvortug_tariff t, uint32_t client, const uint8_t *img, size_t img_len);
 
-/* One call of a listing: at most count ids of the client's blocks from the key upward, 8 bytes each, low byte first.
- * Return the key that it gives until that is ZOLVORTUG_END_KEY. A call may name none and not be the last. */
+/* One call of a listing: at most count ids of the client's blocks from the key upward, of at most 64 block numbers a
+ * call, 8 bytes each, low byte first. Return the key that it gives until that is ZOLVORTUG_END_KEY. A call may name none
+ * and not be the last. */
 zolvortug_listed zolvortug_get_ids(zolvortug_tariff t, uint32_t client, uint32_t key, uint32_t count,
                                    uint8_t *ids, size_t ids_len, const uint8_t *img, size_t img_len);
 
@@ -165,7 +169,8 @@ zolvortug_listed zolvortug_get_ids(zolvortug_tariff t, uint32_t client, uint32_t
 zolvortug_scavenged zolvortug_scavenge(zolvortug_tariff t, uint32_t client, uint32_t key, uint64_t time,
                                        uint8_t *img, size_t img_len);
 
-/* Client 0's: owner, created and expires, 8 bytes each, of the used blocks from the key upward. */
+/* Client 0's: owner, created and expires, 8 bytes each, of the used blocks from the key upward, of at most 64 block
+ * numbers a call. */
 zolvortug_listed zolvortug_profile(zolvortug_tariff t, uint32_t client, uint32_t key,
                                    uint8_t *buffer, size_t buffer_len, const uint8_t *img, size_t img_len);
 

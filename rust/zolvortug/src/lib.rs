@@ -45,7 +45,7 @@ impl Client {
     pub const MANAGER: Client = Client(0);
 }
 
-/// A time in ticks of 1 ms, 1 to 2^40 - 1.
+/// A time in ticks of 1 ms, 1 to 2^40 - 1; an asked expiry may be 0 too.
 #[derive(Clone, Copy, Debug, PartialEq, Eq, PartialOrd, Ord, Hash)]
 pub struct Tick(pub u64);
 
@@ -87,7 +87,7 @@ pub enum Report {
     BadImage = 1,
     /// The client is above 63.
     BadUser,
-    /// Now or the asked expiry is out of range.
+    /// Now or the asked expiry is out of range (an expiry of 0 is allowed).
     BadTime,
     /// Now is not above the image's clock.
     ClockNotLater,
@@ -110,7 +110,7 @@ pub enum Report {
 }
 
 impl Report {
-    const ALL: [Report; 12] = [
+    pub const ALL: [Report; 12] = [
         Report::BadImage,
         Report::BadUser,
         Report::BadTime,
@@ -351,7 +351,7 @@ impl Walk {
         self.0.ended
     }
 
-    /// Blocks below this key are done.
+    /// Blocks below this key are done; of a walk that has ended, the end key, 65,535.
     pub fn key(&self) -> Key {
         Key(self.0.key)
     }
@@ -361,7 +361,7 @@ impl Walk {
     }
 
     /// The ids that the next call names, in rising block number. A step may name none and not be the last: go on until
-    /// `ended`.
+    /// `ended`, or until a step is refused.
     pub fn step<'a, M: AsRef<[u8]>>(&mut self, store: &Store<M>, ids: &'a mut [Id; MOST]) -> Answer<&'a [Id]> {
         let mut bytes = [0; 8 * MOST];
         let paid = self.step_bytes(store, &mut bytes)?;

@@ -1,0 +1,177 @@
+//! docs/MANUAL.md is held against the library and the command: what it shows is what they do.
+mod common;
+use common::Folder;
+use std::process::Command;
+use zolvortug::{Client, Id, Key, Refused, Report, Store, Tariff, Tick, MOST};
+
+const MANUAL: &str = include_str!("../../../docs/MANUAL.md");
+const HERE: &str = include_str!("manual.rs");
+const PRICES: Tariff = Tariff {
+    create: 10,
+    read: 10,
+    status: 10,
+    destroy: 10,
+    replace: 10,
+    setexpiry: 10,
+    getids: 10,
+    getcount: 10,
+    scavenge: 10,
+    profile: 10,
+    error: 1,
+    rate: 2,
+};
+
+/// The manual's block of code in a language.
+fn code(language: &str) -> &str {
+    let (_, rest) = MANUAL.split_once(&format!("```{language}\n")).expect(language);
+    rest.split_once("```\n").expect("an end").0
+}
+
+fn fresh(blocks: u32) -> Vec<u8> {
+    let mut image = vec![0; zolvortug::size_of_image(blocks).unwrap()];
+    zolvortug::format(blocks, &mut image).unwrap();
+    image
+}
+
+// The manual's Rust, between two lines.
+/// Lists a client's ids, then removes what has expired; how many blocks that was.
+fn tidy(image: &mut [u8], prices: Tariff, mut now: Tick) -> Result<usize, Refused> {
+    let mut store = Store::new(image, prices);
+    let (mut walk, mut ids) = (store.walk(Client(3), 64), [Id(0); MOST]);
+    while !walk.ended() {
+        for id in walk.step(&store, &mut ids)?.value {
+            println!("{:016x}", id.0);
+        }
+    }
+    let (mut removed, mut next) = (0, Some(Key::START));
+    while let Some(key) = next {
+        let pass = store.scavenge(Client::MANAGER, key, now)?.value;
+        (removed, next) = (removed + pass.count, pass.next);
+        now.0 += 1; // each call is a change and needs a later time
+    }
+    Ok(removed)
+}
+// The end of it.
+
+#[test]
+fn the_rust_works() {
+    let (_, rest) = HERE.split_once("// The manual's Rust, between two lines.\n").unwrap();
+    let (_, shown) = code("rust").split_once("\n\n").unwrap();
+    assert_eq!(shown, rest.split_once("// The end of it.").unwrap().0);
+    let mut image = fresh(128);
+    let mut store = Store::new(&mut image[..], PRICES);
+    store.create(Client(3), Tick(5), &[0; 528], Tick(4)).unwrap();
+    assert_eq!(tidy(&mut image, PRICES, Tick(6)), Ok(1));
+}
+
+#[test]
+fn the_c_works() {
+    let f = Folder::new();
+    std::fs::write(f.path("recorder.c"), code("c")).unwrap();
+    let root = concat!(env!("CARGO_MANIFEST_DIR"), "/../..");
+    let built = Command::new("cc")
+        .args(["-std=c11", "-Wall", "-Wextra", "-Wpedantic", "-Werror"])
+        .arg(format!("-I{root}/include"))
+        .arg(f.path("recorder.c"))
+        .arg(format!("{root}/target/staticlib/libzolvortug.a"))
+        .arg("-o")
+        .arg(f.path("recorder"))
+        .status();
+    assert!(built.unwrap().success());
+    f.shell("./recorder")
+        .ends(0)
+        .says("report 0, charge 810\ndd8c40005e01c000\n");
+}
+
+/// The header shown byte by byte, and the other bytes that the call changed.
+#[test]
+fn the_header_is_right() {
+    let before = fresh(8);
+    let mut image = before.clone();
+    let bytes: Vec<u8> = (0..528).map(|i| i as u8).collect();
+    Store::new(&mut image[..], PRICES)
+        .create(Client(3), Tick(500), &bytes, Tick(100))
+        .unwrap();
+    let rows = MANUAL.lines().filter_map(|line| {
+        let (at, rest) = line.strip_prefix("    ")?.split_once(": ")?;
+        let at = usize::from_str_radix(at, 16).ok().filter(|_| at.len() == 2)?;
+        let bytes: Vec<u8> = rest
+            .split(' ')
+            .take(8)
+            .map(|b| u8::from_str_radix(b, 16).unwrap())
+            .collect();
+        Some((at, bytes))
+    });
+    let rows: Vec<(usize, Vec<u8>)> = rows.collect();
+    assert_eq!(rows.len(), 8);
+    for (at, bytes) in rows {
+        assert_eq!(image[at..at + 8], bytes, "{at:x}");
+    }
+    let changed: Vec<usize> = (64..image.len()).filter(|i| image[*i] != before[*i]).collect();
+    assert_eq!((image[512], image[1048], image[5656]), (0xfe, 1, 0x64));
+    assert_eq!(image[1536..1539], [0x10, 0x11, 0x12]);
+    assert!(
+        changed
+            .iter()
+            .all(|i| [512, 1048, 5656].contains(i) || (1536..2048).contains(i)),
+        "{changed:?}"
+    );
+}
+
+/// One block through four calls, and what each costs.
+#[test]
+fn the_charges_are_right() {
+    let mut image = fresh(8);
+    let mut store = Store::new(&mut image[..], PRICES);
+    let me = Client(3);
+    let created = store.create(me, Tick(500), &[0; 528], Tick(100)).unwrap();
+    let moved = store.set_expiry(me, created.value, Tick(300), Tick(150)).unwrap();
+    let replaced = store.replace(me, created.value, &[0; 528], Tick(200)).unwrap();
+    let destroyed = store.destroy(me, replaced.value, Tick(250)).unwrap();
+    let charges = [created.charge, moved.charge, replaced.charge, destroyed.charge].map(|c| c.0);
+    assert_eq!(charges, [810, -390, 10, -90]);
+    for charge in charges {
+        assert!(MANUAL.contains(&format!(" = {charge} |")), "{charge}");
+    }
+    assert!(MANUAL.contains(&format!("The sum is {}:", charges.iter().sum::<i64>())));
+}
+
+#[test]
+fn every_report_has_its_row() {
+    for report in Report::ALL {
+        let row = format!("\n| {} | {report:?} | ", report.number());
+        assert_eq!(MANUAL.matches(&row).count(), 1, "{report:?}");
+    }
+}
+
+/// Every verb stands in the manual as its help has it, without what is optional; and no other.
+#[test]
+fn every_verb_has_its_line() {
+    let f = Folder::new();
+    let help = f.run("help").ends(0).out;
+    let verbs: Vec<&str> = help
+        .lines()
+        .filter_map(|l| l.strip_prefix("  ")?.split(' ').next())
+        .collect();
+    let wanted: Vec<String> = verbs.iter().map(|verb| called(&f, verb)).collect();
+    let (_, section) = MANUAL.split_once("## The command\n").unwrap();
+    let lines = section.lines().skip_while(|l| !l.starts_with("    zolvortug"));
+    let shown: Vec<&str> = lines.take_while(|l| !l.is_empty()).map(str::trim).collect();
+    let mut wanted: Vec<&str> = wanted.iter().map(String::as_str).collect();
+    let mut sorted = shown.clone();
+    wanted.sort();
+    sorted.sort();
+    assert_eq!(sorted, wanted);
+}
+
+fn called(f: &Folder, verb: &str) -> String {
+    let help = f.run(&format!("help {verb}")).ends(0).out;
+    let synopsis = help.split("\n\n").next().unwrap().replace("\n   ", "");
+    let keep = |part: &str| part == "FILE]" || !part.ends_with(']');
+    let mut parts = synopsis.split(" [");
+    let mut line = parts.next().unwrap().to_string();
+    for part in parts.filter(|part| keep(part)) {
+        line += &format!(" [{part}");
+    }
+    line
+}
