@@ -160,8 +160,8 @@ zolvortug_done zolvortug_set_expiry(zolvortug_tariff t, uint32_t client, uint64_
 zolvortug_counted zolvortug_get_count(zolvortug_tariff t, uint32_t client, const uint8_t *img, size_t img_len);
 
 /* One call of a listing: at most count ids of the client's blocks from the key upward, of at most 64 block numbers a
- * call, 8 bytes each, low byte first. Return the key that it gives until that is ZOLVORTUG_END_KEY. A call may name none
- * and not be the last. */
+ * call, 8 bytes each, low byte first. Return the key that it gives until that is ZOLVORTUG_END_KEY. A call may name
+ * none and not be the last. */
 zolvortug_listed zolvortug_get_ids(zolvortug_tariff t, uint32_t client, uint32_t key, uint32_t count,
                                    uint8_t *ids, size_t ids_len, const uint8_t *img, size_t img_len);
 

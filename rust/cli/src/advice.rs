@@ -8,13 +8,13 @@ pub fn sentence(report: Report) -> String {
 fn what_to_do(report: Report) -> &'static str {
     match report {
         Report::BadImage => {
-            "no image of this store. An image has a multiple of 8 blocks, from 8 to 4096, and a trailer that agrees with its \
-             length; `zolvortug check FILE` says what is wrong with this one."
+            "no image of this store. An image has a multiple of 8 blocks, from 8 to 4096, and a trailer that agrees with \
+             its length; `zolvortug check FILE` says what is wrong with this one."
         }
         Report::BadUser => "there is no such client. Clients are 0 to 63, and 0 is the manager.",
         Report::BadTime => {
-            "a time is out of range. The store takes ticks 1 to 2^40 - 1, which is up to 2054-11-03T19:53:47.775Z; look at \
-             --now and --expires."
+            "a time is out of range. The store takes ticks 1 to 2^40 - 1, which is up to 2054-11-03T19:53:47.775Z; look \
+             at --now and --expires."
         }
         Report::ClockNotLater => {
             "now is not after the image's clock, the time of its last change. Leave --now out, or give a later one; \
@@ -24,19 +24,21 @@ fn what_to_do(report: Report) -> &'static str {
         Report::BadKey => "the key is not below the number of blocks. Begin the walk again from the start.",
         Report::BadCount => "a call names 1 to 64 ids. Give --count in that range.",
         Report::BadRoom => {
-            "a block is 528 bytes: 16 of the tag, then 512 of data. With --tag give 512 bytes; --pad fills up with zeros."
+            "a block is 528 bytes: 16 of the tag, then 512 of data. With --tag give 512 bytes; --pad fills up with \
+             zeros."
         }
         Report::Damaged => {
-            "a header or a count that this call looked at is damaged, so it changed nothing. `zolvortug check FILE` says \
-             which."
+            "a header or a count that this call looked at is damaged, so it changed nothing. `zolvortug check FILE` \
+             says which."
         }
         Report::NoSuchBlock => {
-            "no stored block has this id. It may have been destroyed, replaced or scavenged; `zolvortug ids FILE --client C` \
-             lists what stands."
+            "no stored block has this id. It may have been destroyed, replaced or scavenged; `zolvortug ids FILE \
+             --client C` lists what stands."
         }
         Report::NotOwner => "the block is another client's; `zolvortug status FILE ID` says whose.",
         Report::NoSpace => {
-            "every block is in use. `zolvortug scavenge FILE` removes what has expired; destroy what is no longer needed."
+            "every block is in use. `zolvortug scavenge FILE` removes what has expired; destroy what is no longer \
+             needed."
         }
     }
 }

@@ -159,8 +159,8 @@ impl Changing {
         Ok(self.with_image(answer))
     }
 
-    /// Where the image came from standard input, a changed one goes to standard output. After a refusal none does, so the
-    /// calls before it have come to nothing.
+    /// Where the image came from standard input, a changed one goes to standard output. After a refusal none does, so
+    /// the calls before it have come to nothing.
     fn with_image(self, answer: Answer) -> Answer {
         match (self.file, answer.refused) {
             (Some(_), _) => answer,

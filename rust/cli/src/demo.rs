@@ -1,5 +1,5 @@
-//! The demonstration: a clean-up falls between two calls of a walk. This store's walk misses nothing; the old store's, whose
-//! key was the number of blocks listed, misses a block, and a good oscillator looks bad.
+//! The demonstration: a clean-up falls between two calls of a walk. This store's walk misses nothing; the old store's,
+//! whose key was the number of blocks listed, misses a block, and a good oscillator looks bad.
 use crate::arguments::Arguments;
 use crate::given::failed;
 use crate::image_file::{self, ImageFile};

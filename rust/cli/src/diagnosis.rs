@@ -7,7 +7,7 @@ use zolvortug::Tick;
 const CLIENTS: usize = 64;
 const ROUNDS: [u32; 4] = [2654435761, 2246822519, 3266489917, 668265263];
 
-/// Every fault of an image, the trailer's first, then block by block, then the map's and the counts'. None: it is sound.
+/// Every fault of an image: the trailer's first, then block by block, then the map's and the counts'.
 pub fn faults(image: &[u8]) -> Vec<String> {
     let Some(layout) = Layout::of(image.len()) else {
         return vec!["the length is no image's".into()];

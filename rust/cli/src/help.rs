@@ -33,8 +33,8 @@ pub fn of_command() -> String {
         text += &format!("  {:<10}{}\n", verb.name, verb.what);
     }
     text + "\n\
-        `zolvortug help VERB` says more, with an example. FILE may be -: the image then comes from standard input, and a\n\
-        changed one goes to standard output.\n\
+        `zolvortug help VERB` says more, with an example. FILE may be -: the image then comes from standard input,\n\
+        and a changed one goes to standard output.\n\
         \n\
         exit status: 0 done, 1 not sound, 2 wrongly called, 3 a file failed, 100 + n refused with report n\n"
 }

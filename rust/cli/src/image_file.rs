@@ -1,5 +1,5 @@
-//! Image files. A file is read whole and locked. Of a changed image the blocks that differ are written, each on the disk
-//! before the next, in an order in which a recorder that loses power can be mended.
+//! Image files. A file is read whole and locked. Of a changed image the blocks that differ are written, each on the
+//! disk before the next, in an order in which a recorder that loses power can be mended.
 use crate::layout::{disk_block, header, sizes, word, Layout, DISK, HEADER, HEADERS, MARK};
 use std::fs::{self, File, OpenOptions, TryLockError};
 use std::io::{self, ErrorKind, IsTerminal, Read, Write as _};
@@ -188,7 +188,7 @@ fn is_still(file: &File, path: &Path) -> bool {
 }
 
 /// Makes a file of these bytes: under another name first, and named when it is on the disk. A file that is replaced is
-/// locked against a command that changes it, and the folder, where its system has such locks, against one that makes it.
+/// locked against a command that changes it; the folder, where its system has such locks, against one that makes it.
 pub fn create(path: &Path, bytes: &[u8], force: bool) -> Result<(), Fault> {
     let path = fs::canonicalize(path).unwrap_or(path.to_path_buf());
     let folder = path
@@ -232,9 +232,9 @@ pub struct Write {
     pub bytes: Vec<u8>,
 }
 
-/// The writes that take one image to another of its length: trailer, data, header blocks from the lowest, map, counts, and
-/// of these the blocks that differ. Where a block's id changes under stored data, as Replace does, its header is written
-/// as unused before its data: so no id ever shows another block's data.
+/// The writes that take one image to another of its length: trailer, data, header blocks from the lowest, map, counts,
+/// and of these the blocks that differ. Where a block's id changes under stored data, as Replace does, its header is
+/// written as unused before its data: so no id ever shows another block's data.
 pub fn writes(from: &[u8], to: &[u8]) -> Vec<Write> {
     let Some(layout) = Layout::of(from.len()).filter(|_| from.len() == to.len()) else {
         return Vec::new();

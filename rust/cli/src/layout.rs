@@ -1,4 +1,4 @@
-//! Where things stand in an image, as the command needs them: to write its blocks in order, and to say what is wrong with one.
+//! Where things stand in an image, as the command needs them: to write its blocks in order, and to say what is wrong.
 
 /// Bytes of a disk block and of a header; headers in a header block.
 pub const DISK: usize = 512;

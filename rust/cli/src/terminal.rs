@@ -54,8 +54,8 @@ impl Paint {
     }
 }
 
-/// A line on standard error that says how far a walk has come: where standard error is a terminal, and the walk takes long
-/// enough for somebody to wonder.
+/// A line on standard error that says how far a walk has come: where standard error is a terminal, and the walk takes
+/// long enough for somebody to wonder.
 pub struct Progress<W: Write> {
     to: Option<W>,
     blocks: usize,

@@ -1,5 +1,5 @@
-//! Ticks at the command's edge: milliseconds from the start of 2020 in UTC, written as RFC 3339. Unix time in milliseconds
-//! is above the store's last tick, 2^40 - 1; counted from 2020 it fits until November 2054.
+//! Ticks at the command's edge: milliseconds from the start of 2020 in UTC, written as RFC 3339. Unix time in
+//! milliseconds is above the store's last tick, 2^40 - 1; counted from 2020 it fits until November 2054.
 use std::time::{SystemTime, UNIX_EPOCH};
 use zolvortug::Tick;
 

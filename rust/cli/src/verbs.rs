@@ -149,8 +149,8 @@ pub const VERBS: &[Verb] = &[
         needed: &[],
         optional: &[FORCE],
         what: "shows a walk that misses nothing, beside the old store's",
-        more: "Three channels store samples in a new image, and one of them lists its blocks while a clean-up falls between two\n\
-               calls. With FILE the image is kept there, to go on with.",
+        more: "Three channels store samples in a new image, and one of them lists its blocks while a clean-up falls\n\
+               between two calls. With FILE the image is kept there, to go on with.",
         example: "zolvortug demo",
         run: demo,
     },
@@ -172,8 +172,9 @@ pub const VERBS: &[Verb] = &[
         needed: &[],
         optional: &[JSON],
         what: "says whether an image is sound, and if it is not, what is wrong",
-        more: "Exit status 0 where it is sound, 1 where it is not. The verdict is the proved check's; the reasons below it are\n\
-               looked for by the command.",
+        more:
+            "Exit status 0 where it is sound, 1 where it is not. The verdict is the proved check's; the reasons below\n\
+               it are looked for by the command.",
         example: "zolvortug check store.img",
         run: check,
     },
@@ -261,7 +262,9 @@ pub const VERBS: &[Verb] = &[
         needed: &[CLIENT],
         optional: &[TARIFF, NOW, JSON, CUT],
         what: "removes a block",
-        more: "What it cost beyond now is given back. The bytes of its data stay in the image until the place is used again.",
+        more:
+            "What it cost beyond now is given back. The bytes of its data stay in the image until the place is used\n\
+               again.",
         example: "zolvortug destroy store.img $ID --client 3",
         run: destroy,
     },
@@ -272,8 +275,9 @@ pub const VERBS: &[Verb] = &[
         needed: &[],
         optional: &[MANAGER, TARIFF, NOW, JSON, CUT],
         what: "removes the blocks that expired before now: a whole walk",
-        more: "Each call looks at 64 blocks, and its changes are on the disk before the next. The first call's time is now, and\n\
-               each later one's is the system's clock again, or the millisecond after the one before it.",
+        more:
+            "Each call looks at 64 blocks, and its changes are on the disk before the next. The first call's time is\n\
+               now; each later one's is the system's clock again, or with --now the next millisecond.",
         example: "zolvortug scavenge store.img",
         run: scavenge,
     },

@@ -135,8 +135,8 @@ fn a_write_that_fails() {
     assert!(f.bytes("i") == before);
 }
 
-/// A disk of 64 KiB of its own, where the system lets a user have one: full when an image is made, and full when a block
-/// of an image with holes is written.
+/// A disk of 64 KiB of its own, where the system lets a user have one: full when an image is made, and full when a
+/// block of an image with holes is written.
 #[test]
 fn a_full_disk() {
     let f = Folder::new();
