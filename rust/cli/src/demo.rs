@@ -2,104 +2,96 @@
 //! whose key was the number of blocks listed, misses a block, and a good oscillator looks bad.
 use crate::arguments::Arguments;
 use crate::given::failed;
-use crate::image_file::{self, ImageFile};
-use crate::layout::word;
+use crate::image_file;
+use crate::recorder::{unforeseen, Recorder, BLOCKS, BLOCK_TIME, GAIN, NOISE};
 use crate::terminal::Paint;
-use crate::{time, Answer, Stop};
+use crate::{Answer, Stop};
 use std::path::{Path, PathBuf};
-use zolvortug::{Client, Id, Key, Store, Tariff, Tick, BLOCK, MOST};
+use zolvortug::{Client, Id, Key, Walk, MOST};
 
-const BLOCKS: u32 = 32;
-const CHANNELS: u32 = 3;
-const ROUNDS: u32 = 6;
 const WALKER: Client = Client(2);
 const IDS_A_CALL: usize = 2;
-/// Samples of a block, each of 4 bytes, after a tag of 16; the tick in which the first is stored, and ticks a block.
-const SAMPLES: u32 = 128;
-const TAG: usize = 16;
-const BEGIN: &str = "2026-01-01T00:00:00Z";
-const BLOCK_TIME: u64 = 128_000;
-/// Picoseconds that the oscillator gains each sample, and the largest noise of one.
-const GAIN: i64 = 5;
-const NOISE: i64 = 2;
 
-/// A store in an image file, with its own time.
-struct Recorder {
-    file: ImageFile,
-    image: Vec<u8>,
-    now: Tick,
-}
-
-impl Recorder {
-    fn make(path: &Path) -> Result<Recorder, Stop> {
-        let mut image = vec![0; zolvortug::size_of_image(BLOCKS).unwrap_or(0)];
-        zolvortug::format(BLOCKS, &mut image).map_err(unforeseen)?;
-        image_file::create(path, &image, false).map_err(|fault| failed(path, fault))?;
-        let file = ImageFile::open(path).map_err(|fault| failed(path, fault))?;
-        let now = time::moment(BEGIN)?;
-        Ok(Recorder { file, image, now })
-    }
-
-    /// A change at a later time, on the disk.
-    fn change<T>(
-        &mut self,
-        wait: u64,
-        call: impl FnOnce(&mut Store<&mut [u8]>, Tick) -> zolvortug::Answer<T>,
-    ) -> Result<T, Stop> {
-        self.now.0 += wait;
-        let paid = call(&mut Store::new(&mut self.image, Tariff::default()), self.now).map_err(unforeseen)?;
-        self.file
-            .commit(&self.image)
-            .map_err(|fault| failed(self.file.path(), fault))?;
-        Ok(paid.value)
-    }
-
-    fn store(&self) -> Store<&[u8]> {
-        Store::new(&self.image, Tariff::default())
-    }
-
-    /// The client's ids that stand at this moment, in the order of their blocks.
-    fn standing(&self) -> Result<Vec<Id>, Stop> {
-        let (mut walk, mut room, mut ids) = (self.store().walk(WALKER, MOST as u32), [Id(0); MOST], Vec::new());
-        while !walk.ended() {
-            ids.extend_from_slice(walk.step(&self.store(), &mut room).map_err(unforeseen)?.value);
+pub fn demo(a: &Arguments) -> Result<Answer, Stop> {
+    let kept = a.word(0).map(PathBuf::from);
+    let name = format!("zolvortug-demo-{}.img", std::process::id());
+    let path = kept.clone().unwrap_or(std::env::temp_dir().join(name));
+    let told = story(&path, a.has("force"), Paint::for_output());
+    let go_on = match kept {
+        Some(_) => format!(
+            "The image is kept: go on with it by `zolvortug ids {} --client 2`.\n",
+            path.display()
+        ),
+        None => {
+            let _ = std::fs::remove_file(&path);
+            "`zolvortug demo FILE` keeps the image; go on with it by `zolvortug ids FILE --client 2`.\n".to_string()
         }
-        Ok(ids)
-    }
-
-    fn samples(&self, id: Id) -> Result<Vec<i64>, Stop> {
-        let mut block = [0; BLOCK];
-        self.store().read(WALKER, id, &mut block).map_err(unforeseen)?;
-        Ok(block[TAG..]
-            .chunks(4)
-            .map(|sample| i64::from(word(sample, 0, 4) as u32 as i32))
-            .collect())
-    }
+    };
+    Ok(Answer::new(told? + &go_on, Vec::new()))
 }
 
-fn unforeseen(why: impl std::fmt::Debug) -> Stop {
-    Stop::File(format!(
-        "the demonstration's image was changed by somebody else: {why:?}"
+fn story(path: &Path, force: bool, paint: Paint) -> Result<String, Stop> {
+    let mut recorder = Recorder::make(path, force)?;
+    recorder.record()?;
+    let all = recorder.standing(WALKER)?;
+    let setting = setting(&recorder, paint);
+    let (table, ours, old) = walks(&mut recorder, &all, paint)?;
+    let stored = row("stored now", &owners(&recorder, paint), "", paint);
+    drop(recorder);
+    let image = image_file::read(path).map_err(|fault| failed(path, fault))?;
+    let sound = if zolvortug::check(&image) {
+        paint.good("sound")
+    } else {
+        paint.bad("not sound")
+    };
+    Ok(format!(
+        "{setting}\n{table}\n{stored}\n{}\nThe image on the disk is {sound}. That no walk misses a block, whatever falls \
+         between its calls, is proved:\ncrates/demands/specs/Demand3.antt says it.\n\n",
+        consequence(&ours, &old, paint)
     ))
 }
 
-/// A block of samples of an oscillator: its tag says series, sequence and number of samples.
-fn samples_of(channel: u32, sequence: u32) -> [u8; BLOCK] {
-    let mut block = [0; BLOCK];
-    block[0..4].copy_from_slice(&channel.to_le_bytes());
-    block[4..8].copy_from_slice(&sequence.to_le_bytes());
-    block[8] = SAMPLES as u8;
-    for i in 0..SAMPLES {
-        let place = sequence * SAMPLES + i;
-        let noise = i64::from(place.wrapping_mul(2654435761) >> 16) % (2 * NOISE + 1) - NOISE;
-        let phase = (GAIN * i64::from(place) + noise) as i32;
-        let at = TAG + 4 * i as usize;
-        block[at..at + 4].copy_from_slice(&phase.to_le_bytes());
-    }
-    block
+fn setting(recorder: &Recorder, paint: Paint) -> String {
+    let title = format!("Three channels of a recorder store phase samples in an image of {BLOCKS} blocks.");
+    let mut letters = 'A'..;
+    let letter = |owner: Option<Client>| match owner {
+        Some(WALKER) => letters.next().map(String::from),
+        _ => Some(" ".into()),
+    };
+    let letters: Vec<String> = recorder.owners().into_iter().filter_map(letter).collect();
+    let text = format!(
+        "\nChannel 2 has the six blocks A to F. It lists them {IDS_A_CALL} at a time, and reads each as it is named.\n\
+         After the first call block A has expired, and a clean-up removes it.\n"
+    );
+    paint.bold(&title)
+        + "\n\n"
+        + &row("stored by channel", &owners(recorder, paint), "", paint)
+        + &row("", letters.join(" ").trim_end(), "", paint)
+        + &text
 }
 
-/// A listing in progress: the blocks named, and the samples joined in their order.
+/// A sign for each block: its owner, or a dot where it is free.
+fn owners(recorder: &Recorder, paint: Paint) -> String {
+    let sign = |owner: Option<Client>| match owner {
+        Some(WALKER) => paint.bold(&WALKER.0.to_string()),
+        Some(client) => client.0.to_string(),
+        None => paint.faint("."),
+    };
+    recorder.owners().into_iter().map(sign).collect::<Vec<_>>().join(" ")
+}
+
+/// What the calculator makes of the samples, joined in the order in which they were listed.
+fn consequence(ours: &Listing, old: &Listing, paint: Paint) -> String {
+    let step = |listing: &Listing| format!("{} ps", listing.largest_step());
+    let deviation = |listing: &Listing| format!("{:.1} ps", listing.deviation());
+    paint.bold("The calculator joins the samples that it was given.")
+        + &format!(" This oscillator gains {GAIN} ps each sample, with at most {NOISE} ps of noise.\n\n")
+        + &row("largest step", &step(ours), &paint.bad(&step(old)), paint)
+        + &row("Allan deviation", &deviation(ours), &paint.bad(&deviation(old)), paint)
+        + "\nThe oscillator never made that step: the old key turns a good one down.\n"
+}
+
+/// A listing in progress: the blocks named, and their samples joined in that order.
 #[derive(Default)]
 struct Listing {
     named: Vec<Id>,
@@ -111,9 +103,13 @@ impl Listing {
     fn take(&mut self, recorder: &Recorder, ids: &[Id]) -> Result<(), Stop> {
         for id in ids {
             self.named.push(*id);
-            self.joined.extend(recorder.samples(*id)?);
+            self.joined.extend(recorder.phases(WALKER, *id)?);
         }
         Ok(())
+    }
+
+    fn missed(&self, all: &[Id]) -> Vec<Id> {
+        all.iter().copied().filter(|id| !self.named.contains(id)).collect()
     }
 
     fn largest_step(&self) -> i64 {
@@ -128,125 +124,41 @@ impl Listing {
     }
 }
 
-pub fn demo(a: &Arguments) -> Result<Answer, Stop> {
-    let kept = a.word(0).map(PathBuf::from);
-    let path = kept
-        .clone()
-        .unwrap_or_else(|| std::env::temp_dir().join(format!("zolvortug-demo-{}.img", std::process::id())));
-    let told = story(&path, Paint::for_output());
-    if kept.is_none() {
-        let _ = std::fs::remove_file(&path);
-    }
-    let go_on = match kept {
-        None => {
-            "\n`zolvortug demo FILE` keeps the image; go on with it by `zolvortug ids FILE --client 2`.\n".to_string()
-        }
-        Some(_) => format!(
-            "\nThe image is kept: go on with it by `zolvortug ids {} --client 2`.\n",
-            path.display()
-        ),
-    };
-    Ok(Answer::new(told? + &go_on, Vec::new()))
-}
-
-fn story(path: &Path, paint: Paint) -> Result<String, Stop> {
-    let mut recorder = Recorder::make(path)?;
-    for sequence in 0..ROUNDS {
-        for channel in 1..=CHANNELS {
-            let keep = if sequence == 0 {
-                (u64::from(ROUNDS) + 1) * BLOCK_TIME
-            } else {
-                30 * 86_400_000
-            };
-            let wait = if channel == 1 { BLOCK_TIME } else { 1 };
-            let block = samples_of(channel, sequence);
-            recorder.change(wait, |s, now| {
-                s.create(Client(channel), Tick(now.0 + keep), &block, now)
-            })?;
-        }
-    }
-    let all = recorder.standing()?;
-    let mut told = format!(
-        "{}\n\n  stored by channel   {}\n\n",
-        paint.bold(&format!(
-            "Three channels of a recorder store phase samples in an image of {BLOCKS} blocks."
-        )),
-        owners(&recorder.image, paint),
-    );
-    told += &format!(
-        "Channel 2 has six blocks, A to F. It lists them {IDS_A_CALL} at a time, and reads each as it is named.\n\
-         After the first call its block A has expired, and a clean-up removes it.\n\n",
-    );
-    told += &row("", &paint.bold("this store"), &paint.bold("the old store"), paint);
-    told += &row("the key is", "a block number", "the number of blocks listed", paint);
-    told += "\n";
-    let (ours, old) = walks(&mut recorder, &all, &mut told, paint)?;
-    told += &format!("\n  stored now          {}\n\n", owners(&recorder.image, paint));
-    told += &paint.bold("The calculator joins the samples that it was given.");
-    told += &format!(" This oscillator gains {GAIN} ps each sample, with at most {NOISE} ps of noise.\n\n");
-    let ps = |n: i64| format!("{n} ps");
-    told += &row(
-        "largest step",
-        &ps(ours.largest_step()),
-        &paint.bad(&ps(old.largest_step())),
-        paint,
-    );
-    let dev = |listing: &Listing| format!("{:.1} ps", listing.deviation());
-    told += &row("Allan deviation", &dev(&ours), &paint.bad(&dev(&old)), paint);
-    told += "\nThe oscillator never made that step: the old key turns a good one down.\n\n";
-    let sound = if zolvortug::check(recorder.file.bytes()) {
-        paint.good("sound")
-    } else {
-        paint.bad("not sound")
-    };
-    told += &format!(
-        "The image on the disk is {sound}. That no walk misses a block, whatever falls between its calls, is proved:\n"
-    );
-    Ok(told + "crates/demands/specs/Demand3.antt says it.\n")
-}
-
-/// Both listings of the same store, call by call, the clean-up after the first.
-fn walks(recorder: &mut Recorder, all: &[Id], told: &mut String, paint: Paint) -> Result<(Listing, Listing), Stop> {
+/// Both listings of the same store, call by call, the clean-up after the first; and the table that shows them.
+fn walks(recorder: &mut Recorder, all: &[Id], paint: Paint) -> Result<(String, Listing, Listing), Stop> {
     let (mut ours, mut old) = (Listing::default(), Listing::default());
     let mut walk = recorder.store().walk(WALKER, IDS_A_CALL as u32);
+    let mut table = row("", &paint.bold("this store"), &paint.bold("the old store"), paint)
+        + &row("the key is", "a block number", "the number of blocks listed", paint)
+        + "\n";
     for call in 1.. {
-        let cells = [
-            our_call(recorder, &mut walk, &mut ours, all)?,
-            old_call(recorder, &mut old, all)?,
-        ];
-        *told += &row(&format!("call {call}"), &cells[0], &cells[1], paint);
+        let our_cell = our_call(recorder, &mut walk, &mut ours, all)?;
+        let old_cell = old_call(recorder, &mut old, all)?;
+        table += &row(&format!("call {call}"), &our_cell, &old_cell, paint);
         if call == 1 {
-            let gone = recorder.change(2 * BLOCK_TIME, |s, now| s.scavenge(Client::MANAGER, Key::START, now))?;
-            *told += &format!(
-                "  {}\n",
-                paint.faint(&format!(
-                    "clean-up            removes {} blocks: A, and the first of each other channel",
-                    gone.count
-                ))
+            recorder.change(2 * BLOCK_TIME, |store, now| {
+                store.scavenge(Client::MANAGER, Key::START, now)
+            })?;
+            table += &row(
+                "clean-up",
+                &paint.faint("removes A, and the first of the other channels"),
+                "",
+                paint,
             );
         }
         if ours.ended && old.ended {
             break;
         }
     }
-    let missed = |listing: &Listing| {
-        letters(
-            all,
-            &all.iter()
-                .copied()
-                .filter(|id| !listing.named.contains(id))
-                .collect::<Vec<_>>(),
-        )
-    };
-    let told_missed = |listing: &Listing| match &missed(listing)[..] {
+    let missed = |listing: &Listing| match &letters(all, &listing.missed(all))[..] {
         "" => paint.good("nothing"),
         some => paint.bad(some),
     };
-    *told += &row("missed", &told_missed(&ours), &told_missed(&old), paint);
-    Ok((ours, old))
+    table += &row("missed", &missed(&ours), &missed(&old), paint);
+    Ok((table, ours, old))
 }
 
-fn our_call(recorder: &Recorder, walk: &mut zolvortug::Walk, ours: &mut Listing, all: &[Id]) -> Result<String, Stop> {
+fn our_call(recorder: &Recorder, walk: &mut Walk, ours: &mut Listing, all: &[Id]) -> Result<String, Stop> {
     if ours.ended {
         return Ok(String::new());
     }
@@ -254,12 +166,11 @@ fn our_call(recorder: &Recorder, walk: &mut zolvortug::Walk, ours: &mut Listing,
     let ids = walk.step(&recorder.store(), &mut room).map_err(unforeseen)?.value;
     ours.take(recorder, ids)?;
     ours.ended = walk.ended();
-    let next = if ours.ended {
-        "the end".to_string()
-    } else {
-        format!("next: from block {}", walk.key().block())
-    };
-    Ok(format!("{:<6}{next}", letters(all, ids)))
+    Ok(cell(
+        &letters(all, ids),
+        ours.ended,
+        &format!("from block {}", walk.key().block()),
+    ))
 }
 
 /// The old store's call: of the blocks that stand, it skips as many as were listed.
@@ -267,7 +178,7 @@ fn old_call(recorder: &Recorder, old: &mut Listing, all: &[Id]) -> Result<String
     if old.ended {
         return Ok(String::new());
     }
-    let standing = recorder.standing()?;
+    let standing = recorder.standing(WALKER)?;
     let ids: Vec<Id> = standing
         .iter()
         .copied()
@@ -276,20 +187,27 @@ fn old_call(recorder: &Recorder, old: &mut Listing, all: &[Id]) -> Result<String
         .collect();
     old.take(recorder, &ids)?;
     old.ended = old.named.len() >= standing.len();
-    let next = if old.ended {
-        "the end".to_string()
-    } else {
-        format!("next: after {} blocks", old.named.len())
-    };
-    Ok(format!("{:<6}{next}", letters(all, &ids)))
+    Ok(cell(
+        &letters(all, &ids),
+        old.ended,
+        &format!("after {} blocks", old.named.len()),
+    ))
+}
+
+fn cell(named: &str, ended: bool, next: &str) -> String {
+    match ended {
+        true => format!("{named:<6}the end"),
+        false => format!("{named:<6}next: {next}"),
+    }
 }
 
 /// The blocks' letters: the first that the channel stored is A.
 fn letters(all: &[Id], ids: &[Id]) -> String {
     let letter = |id: &Id| {
         all.iter()
-            .position(|of| of == id)
-            .map_or('?', |i| (b'A' + i as u8) as char)
+            .zip('A'..)
+            .find(|(of, _)| *of == id)
+            .map_or('?', |(_, letter)| letter)
     };
     ids.iter()
         .map(|id| letter(id).to_string())
@@ -298,15 +216,10 @@ fn letters(all: &[Id], ids: &[Id]) -> String {
 }
 
 fn row(name: &str, ours: &str, old: &str, paint: Paint) -> String {
-    format!("  {name:<20}{}{old}\n", paint.padded(ours, 30))
-}
-
-/// A sign for each block: its owner, or a dot where it is free.
-fn owners(image: &[u8], paint: Paint) -> String {
-    let sign = |block: usize| match crate::layout::header(image, block) {
-        [1, owner, ..] if Client(u32::from(*owner)) == WALKER => paint.bold(&owner.to_string()),
-        [1, owner, ..] => owner.to_string(),
-        _ => paint.faint("."),
+    let left = if old.is_empty() {
+        ours.to_string()
+    } else {
+        paint.padded(ours, 30)
     };
-    (0..BLOCKS as usize).map(sign).collect::<Vec<_>>().join(" ")
+    format!("  {name:<20}{left}{old}\n")
 }

@@ -10,6 +10,7 @@ pub mod image_file;
 mod json;
 pub mod layout;
 mod reading;
+mod recorder;
 mod tariff_file;
 mod terminal;
 pub mod time;

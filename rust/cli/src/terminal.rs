@@ -85,7 +85,7 @@ impl<W: Write> Progress<W> {
         }
     }
 
-    /// The walk goes on at this block.
+    /// The walk goes on at this block, or is past the last.
     pub fn at(&mut self, block: u32) {
         let Some(to) = &mut self.to else { return };
         if Instant::now() < self.next {
@@ -93,7 +93,8 @@ impl<W: Write> Progress<W> {
         }
         self.shown = true;
         self.next = Instant::now() + BETWEEN;
-        let share = 100 * block as usize / self.blocks;
+        let block = self.blocks.min(block as usize);
+        let share = 100 * block / self.blocks;
         let _ = write!(to, "\rblock {block} of {}, {share} %", self.blocks).and_then(|()| to.flush());
     }
 }
@@ -116,8 +117,13 @@ mod tests {
         let mut progress = Progress::new(Some(&mut seen), 4096, Instant::now());
         progress.at(64);
         progress.at(128);
+        progress.next = Instant::now();
+        progress.at(65535);
         drop(progress);
-        assert_eq!(String::from_utf8_lossy(&seen), "\rblock 64 of 4096, 1 %\r\x1b[K");
+        assert_eq!(
+            String::from_utf8_lossy(&seen),
+            "\rblock 64 of 4096, 1 %\rblock 4096 of 4096, 100 %\r\x1b[K"
+        );
     }
 
     #[test]
