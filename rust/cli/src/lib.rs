@@ -11,7 +11,7 @@ mod json;
 pub mod layout;
 mod reading;
 mod recorder;
-mod tariff_file;
+pub mod tariff_file;
 mod terminal;
 pub mod time;
 mod verbs;

@@ -3,23 +3,15 @@ mod common;
 use common::Folder;
 use std::process::Command;
 use zolvortug::{Client, Id, Key, Refused, Report, Store, Tariff, Tick, MOST};
+use zolvortug_cli::tariff_file::parse;
 
 const MANUAL: &str = include_str!("../../../docs/MANUAL.md");
 const HERE: &str = include_str!("manual.rs");
-const PRICES: Tariff = Tariff {
-    create: 10,
-    read: 10,
-    status: 10,
-    destroy: 10,
-    replace: 10,
-    setexpiry: 10,
-    getids: 10,
-    getcount: 10,
-    scavenge: 10,
-    profile: 10,
-    error: 1,
-    rate: 2,
-};
+
+/// Ten prices of 10, error price 1, rate 2.
+fn prices() -> Tariff {
+    parse(include_str!("../../../examples/prices")).unwrap()
+}
 
 /// The manual's block of code in a language.
 fn code(language: &str) -> &str {
@@ -59,9 +51,9 @@ fn the_rust_works() {
     let (_, shown) = code("rust").split_once("\n\n").unwrap();
     assert_eq!(shown, rest.split_once("// The end of it.").unwrap().0);
     let mut image = fresh(128);
-    let mut store = Store::new(&mut image[..], PRICES);
+    let mut store = Store::new(&mut image[..], prices());
     store.create(Client(3), Tick(5), &[0; 528], Tick(4)).unwrap();
-    assert_eq!(tidy(&mut image, PRICES, Tick(6)), Ok(1));
+    assert_eq!(tidy(&mut image, prices(), Tick(6)), Ok(1));
 }
 
 #[test]
@@ -89,7 +81,7 @@ fn the_header_is_right() {
     let before = fresh(8);
     let mut image = before.clone();
     let bytes: Vec<u8> = (0..528).map(|i| i as u8).collect();
-    Store::new(&mut image[..], PRICES)
+    Store::new(&mut image[..], prices())
         .create(Client(3), Tick(500), &bytes, Tick(100))
         .unwrap();
     let rows = MANUAL.lines().filter_map(|line| {
@@ -122,7 +114,7 @@ fn the_header_is_right() {
 #[test]
 fn the_charges_are_right() {
     let mut image = fresh(8);
-    let mut store = Store::new(&mut image[..], PRICES);
+    let mut store = Store::new(&mut image[..], prices());
     let me = Client(3);
     let created = store.create(me, Tick(500), &[0; 528], Tick(100)).unwrap();
     let moved = store.set_expiry(me, created.value, Tick(300), Tick(150)).unwrap();
@@ -148,11 +140,7 @@ fn every_report_has_its_row() {
 #[test]
 fn every_verb_has_its_line() {
     let f = Folder::new();
-    let help = f.run("help").ends(0).out;
-    let verbs: Vec<&str> = help
-        .lines()
-        .filter_map(|l| l.strip_prefix("  ")?.split(' ').next())
-        .collect();
+    let verbs = f.verbs();
     let wanted: Vec<String> = verbs.iter().map(|verb| called(&f, verb)).collect();
     let (_, section) = MANUAL.split_once("## The command\n").unwrap();
     let lines = section.lines().skip_while(|l| !l.starts_with("    zolvortug"));

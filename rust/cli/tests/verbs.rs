@@ -165,11 +165,7 @@ fn wrongly_called() {
 #[test]
 fn examples_of_the_help_work() {
     let f = Folder::new();
-    let verbs = f.run("help").ends(0).out;
-    let verbs: Vec<&str> = verbs
-        .lines()
-        .filter_map(|l| l.strip_prefix("  ")?.split(' ').next())
-        .collect();
+    let verbs = f.verbs();
     assert_eq!(verbs.len(), 13);
     let mut script = String::from("set -e\n");
     for verb in verbs {
@@ -178,7 +174,7 @@ fn examples_of_the_help_work() {
         assert!(help.lines().all(|line| line.len() <= 120), "{help}");
         let example = help.split_once("example:\n").expect("an example").1.trim();
         assert!(example.contains(&format!("zolvortug {verb}")), "{help}");
-        script += &match verb {
+        script += &match &verb[..] {
             "create" => format!("ID=$({example})\n"),
             _ => format!("{example}\n"),
         };

@@ -63,7 +63,16 @@ impl Folder {
         self.fed(words, b"")
     }
 
-    /// The same, in a shell in which the command is called zolvortug.
+    /// The verbs that the help lists.
+    pub fn verbs(&self) -> Vec<String> {
+        let help = self.run("help").ends(0).out;
+        let listed = help
+            .lines()
+            .filter_map(|line| line.strip_prefix("  ")?.split(' ').next());
+        listed.map(str::to_string).collect()
+    }
+
+    /// Runs a script in a shell in which the command is called zolvortug.
     pub fn shell(&self, script: &str) -> Said {
         let at = Path::new(COMMAND).parent().unwrap().display();
         let path = format!("{at}:{}", std::env::var("PATH").unwrap());
