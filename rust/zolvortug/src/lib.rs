@@ -110,6 +110,7 @@ pub enum Report {
 }
 
 impl Report {
+    /// All of them, in this order.
     pub const ALL: [Report; 12] = [
         Report::BadImage,
         Report::BadUser,
