@@ -1,6 +1,6 @@
 -- Profile, outcome by outcome.
 -- Assumes nothing.
-use Prim.Native.Nat.{ℕ, _+_, _-_, _*_, _≤_, _<_, min}
+use Prim.Native.Nat.{ℕ, _+_, _*_, _≤_, _<_}
 use mathlib.Core.Path.{_≡_, refl, sym, _∙_}
 use mathlib.Core.Bool.{Bool, true, false, not}
 use mathlib.Core.List.{List, [], _∷_, _++_}
@@ -11,6 +11,7 @@ use lib.ListN.{length}
 use Rattle.word.specs.Word.{bytesOf}
 use Rattle.word.specs.Write.{over}
 use Rattle.word.specs.Laws.{length-bytesOf, over-nil}
+use Rattle.run.specs.Run as Run
 use Rattle.run.specs.Run.{one, just, picked, rows}
 use Rattle.run.specs.Laws.{one-yes, one-no}
 use Rattle.run.proofs.Turns.{row-yes, row-no}
@@ -121,7 +122,7 @@ module _ (img : List ℕ) (client key : ℕ) (buffer : List ℕ) where
       refuses-asked r e h = refuses r n its
           (by-numbers (readingRows img client) (asked n) last img (reading-rising img client) n clock o r e h)
 
-      module _ (m : ℕ) (z : numberOf (lowest (asked n)) ≡ 0) (e : m ≡ min 64 (n - key)) where
+      module _ (m : ℕ) (z : numberOf (lowest (asked n)) ≡ 0) (e : m ≡ Run.reach n key) where
         after : profileReport img client key buffer ≡ lowest last
         unfolding rising
         after = by-rows n its ∙ by-headers (readingRows img client) (asked n) last img

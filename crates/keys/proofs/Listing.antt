@@ -1,6 +1,6 @@
 -- GetIds, outcome by outcome.
 -- Assumes nothing.
-use Prim.Native.Nat.{ℕ, _+_, _-_, _*_, _≤_, _<_, min}
+use Prim.Native.Nat.{ℕ, _+_, _*_, _≤_, _<_}
 use mathlib.Core.Path.{_≡_, refl, sym, _∙_}
 use mathlib.Core.Bool.{true, false, not}
 use mathlib.Core.List.{List, [], _∷_, _++_}
@@ -10,7 +10,7 @@ use lib.ListN.{length}
 use Rattle.word.specs.Word.{bytesOf}
 use Rattle.word.specs.Write.{over}
 use Rattle.word.specs.Laws.{length-bytesOf, over-nil}
-use Rattle.run.specs.Run.{one, just, picked, visits, rows}
+use Rattle.run.specs.Run.{one, just, picked, visits, reach, rows}
 use Rattle.run.specs.Laws.{one-yes, one-no, visits-le, picked-le}
 use Rattle.run.proofs.Turns.{row-yes, row-no}
 use Rattle.kinds.specs.Report.{numberOf}
@@ -121,7 +121,7 @@ module _ (img : List ℕ) (client key count : ℕ) (ids : List ℕ) where
       refuses-asked r e h = refuses r n its
           (by-numbers (readingRows img client) (asked n) last img (reading-rising img client) n clock o r e h)
 
-      module _ (m : ℕ) (z : numberOf (lowest (asked n)) ≡ 0) (e : m ≡ min 64 (n - key)) where
+      module _ (m : ℕ) (z : numberOf (lowest (asked n)) ≡ 0) (e : m ≡ reach n key) where
         after : getIdsReport img client key count ids ≡ lowest last
         unfolding rising
         after = by-rows n its ∙ by-headers (readingRows img client) (asked n) last img

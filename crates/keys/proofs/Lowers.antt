@@ -19,9 +19,10 @@ use Rattle.promise.specs.Counts.{countOf, countsOf}
 use Rattle.promise.proofs.CountLaws.{count-at}
 use Rattle.keys.proofs.Marks.{pass-turn}
 use Rattle.promise.specs.Trailer.{clockSet}
-use Rattle.promise.specs.Scavenge.{mapFreed}
+use Rattle.promise.specs.Header.{headerOf, ownerOf}
+use Rattle.promise.specs.Map.{mapByte, weight}
 use Rattle.promise.proofs.TrailerLaws.{Number}
-use Rattle.keys.specs.Marks.{zeroed}
+use Rattle.keys.specs.Marks.{freed}
 
 -- an image of the right length whose counts are numbers of 8 bytes
 abbrev pub Counted : (n : ℕ) → List ℕ → Type 0
@@ -158,37 +159,33 @@ lowers n (o ∷ us) e s c =
 
 -- ---- the clock, the headers and the bits leave the counts
 
-module _ (n : ℕ) (r : Number n) where
-  -- a change that keeps the length and the counts block, at each block of a list
-  each-keeps : (f : List ℕ → ℕ → List ℕ)
-      → ((s : List ℕ) (b : ℕ) → length s ≡ sizeOf n → b < n → (length (f s b) ≡ sizeOf n)
-      × (countsOf n (f s b) ≡ countsOf n s))
-      → (bs : List ℕ) → Every (λ b. b < n) bs → (s : List ℕ) → length s ≡ sizeOf n
-      → (length (each f s bs) ≡ sizeOf n) × (countsOf n (each f s bs) ≡ countsOf n s)
-  unfolding each
-  each-keeps f k [] e s z = (z, refl)
-  each-keeps f k (b ∷ bs) e s z =
-      let w = k s b z (e .0) in
-      let v = each-keeps f k bs (e .1) (f s b) (w .0) in
-      (v .0, v .1 ∙ w .1)
-
+module _ (n : ℕ) (img : List ℕ) (r : Number n) where
   kept : (s : List ℕ) (at : ℕ) (vs : List ℕ) → length s ≡ sizeOf n → at + length vs ≤ length s
       → Apart (countAt n 0) 512 at (length vs)
       → (length (over s at vs) ≡ sizeOf n) × (countsOf n (over s at vs) ≡ countsOf n s)
   kept s at vs z w a = (length-over s at vs w ∙ z, frame s at vs w (countAt n 0) 512 a)
 
-  pub swept : (img : List ℕ) (time : ℕ) (bs : List ℕ) → Every (λ b. b < n) bs → length img ≡ sizeOf n → Bytes img
-      → Counted n (each (mapFreed n) (each zeroed (puts img (clockSet n time ∷ [])) bs) bs)
+  -- blocks freed, one after the other
+  all-kept : (bs : List ℕ) → Every (λ b. (b < n) × (ownerOf (headerOf img b) < 64)) bs
+      → (s : List ℕ) → length s ≡ sizeOf n
+      → (length (each (freed n) s bs) ≡ sizeOf n) × (countsOf n (each (freed n) s bs) ≡ countsOf n s)
+  unfolding each puts
+  all-kept [] e s z = (z, refl)
+  all-kept (b ∷ bs) e s z =
+      let h = kept s (headerAt b) (blank 64) z (simp sizes (omega arith)) (simp sizes (omega arith)) in
+      let t : List ℕ = over s (headerAt b) (blank 64) in
+      let m = kept t (mapAt n + b / 8) (bytesOf 1 (mapByte n t b + weight b)) (h .0)
+      (simp sizes (omega (arith, r .most, h .0))) (simp sizes (omega (arith, r .most))) in
+      let v = all-kept bs (e .1) (freed n s b) (m .0) in
+      (v .0, v .1 ∙ m .1 ∙ h .1)
+
+  pub swept : (time : ℕ) (bs : List ℕ) → Every (λ b. (b < n) × (ownerOf (headerOf img b) < 64)) bs
+      → length img ≡ sizeOf n → Bytes img → Counted n (each (freed n) (puts img (clockSet n time ∷ [])) bs)
   unfolding puts countOf
-  swept img time bs e z y =
+  swept time bs e z y =
       let c = kept img (trailerAt n + 24) (bytesOf 8 time) z (simp sizes (omega arith)) (simp sizes (omega arith)) in
-      let h = each-keeps zeroed
-      (λ s b q l. kept s (headerAt b) (blank 64) q (simp sizes (omega arith)) (simp sizes (omega arith))) bs e _
-      (c .0) in
-      let m = each-keeps (mapFreed n)
-      (λ s b q l. kept s (mapAt n + b / 8) _ q (simp sizes (omega (arith, r .most)))
-      (simp sizes (omega (arith, r .most)))) bs e _ (h .0) in (
+      let m = all-kept bs e _ (c .0) in (
         m .0,
-        λ u g. rw (m .1, h .1, c .1)
+        λ u g. rw (m .1, c .1)
             (omega (arith, word-bound 8 (countsOf n img) (8 * u) (bytes-part img (countAt n 0) 512 y))),
       )

@@ -20,11 +20,11 @@ use Rattle.run.proofs.Turns.{count-turn, count-end, each-turn, each-yes, each-n
 use Rattle.promise.specs.Trailer.{clockSet}
 use Rattle.promise.specs.Header.{headerOf, isUsed, ownerOf, expiresOf}
 use Rattle.promise.specs.Counts.{countOf}
-use Rattle.promise.specs.Scavenge.{expired, mapFreed}
+use Rattle.promise.specs.Scavenge.{expired}
 use Rattle.image.proofs.Tallies.{lent-header}
-use Rattle.keys.specs.Marks.{markOf, marked, marksOf, raisedAt, hasCount, zeroed, removedBy, owes, Tallies}
+use Rattle.keys.specs.Marks.{markOf, marked, marksOf, raisedAt, hasCount, freed, removedBy, owes, Tallies}
 use Rattle.keys.proofs.Visits.{lent}
-use Rattle.run.specs.Tally.{picked-mono}
+use Rattle.run.specs.Tally.{picked-mono, picked-same}
 
 -- ---- the mark of a header
 
@@ -69,11 +69,6 @@ raised t x u h = go (ℕ-discrete u x)
     go (yes q) = rw (q, eq-eqb x x refl) (getD-set-same t x (getD t x 0 + 1) 0 h)
     go (no d) = rw (ne-eqb x u (λ r. d (sym r))) (getD-set-other t x u (getD t x 0 + 1) 0 d ∙ omega arith)
 
--- the tally with the marks that are left is that of all
-abbrev pub Tallied : (marks : List ℕ) (k : ℕ) (tally : List ℕ) (i left : ℕ) → Type 0
-Tallied marks k tally i left = (u : ℕ) → u < 64
-    → getD tally u 0 + length (picked (λ i. eqb (getD marks i 0) u) i left) ≡ marksOf marks k u
-
 -- what one mark adds
 added : (mark : ℕ) (tally : List ℕ) (u : ℕ) → length tally ≡ 64 → u < 64
     → getD (when (ltb mark 64) (raisedAt mark tally) tally) u 0 ≡ getD tally u 0 + cond (eqb mark u) 1 0
@@ -83,22 +78,32 @@ added mark tally u l h =
     (λ (g : 64 ≤ mark). rw (le-ltb mark 64 g, ne-eqb mark u (λ q. omega arith)) (omega arith))
     (lt-or-le mark 64)
 
-module _ (marks : List ℕ) (k : ℕ) where
-  pub tally-begun : (tally : List ℕ) → ((u : ℕ) → getD tally u 0 ≡ 0) → Tallied marks k tally 0 k
-  tally-begun tally z u h = omega (arith, z u)
+-- the mark at place i is `mark i`: the tally of the first i marks, with those of k that are left, is that of all k
+module _ (mark : ℕ → ℕ) (k : ℕ) where
+  abbrev pub Tallied : (tally : List ℕ) (i : ℕ) → Type 0
+  Tallied tally i = (u : ℕ) → u < 64
+      → getD tally u 0 + length (picked (λ i. eqb (mark i) u) i (k - i)) ≡ length (picked (λ i. eqb (mark i) u) 0 k)
 
-  pub tally-turn : (tally : List ℕ) (i left : ℕ) → 0 < left → length tally ≡ 64 → Tallied marks k tally i left
-      → Tallied marks k (when (ltb (getD marks i 0) 64) (raisedAt (getD marks i 0) tally) tally) (i + 1) (left - 1)
+  pub tally-begun : (tally : List ℕ) → ((u : ℕ) → getD tally u 0 ≡ 0) → Tallied tally 0
+  tally-begun tally z u h = let e : k - 0 ≡ k = omega arith in rw e (omega (arith, z u))
+
+  pub tally-turn : (tally : List ℕ) (i m : ℕ) → i < k → m ≡ mark i → length tally ≡ 64 → Tallied tally i
+      → Tallied (when (ltb m 64) (raisedAt m tally) tally) (i + 1)
   unfolding one
-  tally-turn tally i left h l t u g =
-      omega (arith, added (getD marks i 0) tally u l g, count-turn (λ i. eqb (getD marks i 0) u) i left h, t u g)
+  tally-turn tally i m h e l t u g =
+      let z : k - i - 1 ≡ k - (i + 1) = omega arith in
+      let c = rw z at (count-turn (λ i. eqb (mark i) u) i (k - i) (omega arith)) in
+      rw e (omega (arith, added (mark i) tally u l g, c, t u g))
 
-  pub tally-end : (tally : List ℕ) (i left : ℕ) → left ≤ 0 → Tallied marks k tally i left → (u : ℕ) → u < 64
-      → getD tally u 0 ≡ marksOf marks k u
-  tally-end tally i left h t u g = omega (arith, count-end (λ i. eqb (getD marks i 0) u) i left h, t u g)
+  pub tally-end : (tally marks : List ℕ) (i : ℕ) → k ≤ i → ((j : ℕ) → j < i → getD marks j 0 ≡ mark j)
+      → Tallied tally i → Tallies marks k tally
+  tally-end tally marks i h m t u g =
+      let same = picked-same (λ j. eqb (getD marks j 0) u) (λ j. eqb (mark j) u) 0 k
+      (λ j l b. ap (λ (x : ℕ). eqb x u) (m j (omega arith))) in
+      omega (arith, count-end (λ i. eqb (mark i) u) i (k - i) (omega arith), t u g, ap length same)
 
-  pub tally-few : (tally : List ℕ) (i left : ℕ) → Tallied marks k tally i left → (u : ℕ) → u < 64 → getD tally u 0 ≤ k
-  tally-few tally i left t u g = omega (arith, t u g, picked-few (λ i. eqb (getD marks i 0) u) 0 k)
+  pub tally-few : (tally : List ℕ) (i : ℕ) → Tallied tally i → (u : ℕ) → u < 64 → getD tally u 0 ≤ k
+  tally-few tally i t u g = omega (arith, t u g, picked-few (λ i. eqb (mark i) u) 0 k)
 
 pub by-tally : (n : ℕ) (img tally marks : List ℕ) (k : ℕ) → ((u : ℕ) → u < 64 → getD tally u 0 ≡ marksOf marks k u)
     → allOf (hasCount n img tally) 0 64 ≡ allOf (λ u. leb (marksOf marks k u) (countOf n img u)) 0 64
@@ -130,12 +135,6 @@ pub pass-count : (p : ℕ → Bool) (b k : ℕ) → 0 < k
     → length (picked p b k) ≡ cond (p b) 1 0 + length (picked p (b + 1) (k - 1))
 unfolding one
 pass-count p b k h = count-turn p b k h
-
--- a pass over nothing, and a removal of nothing: the map and the counts stay
-pass-none : {S : Type 0} (f : S → ℕ → S) (s : S) (bs : List ℕ) → length bs ≡ 0 → each f s bs ≡ s
-unfolding each
-pass-none f s [] e = refl
-pass-none f s (b ∷ bs) e = absurd (omega arith)
 
 -- ---- runs
 
@@ -180,12 +179,10 @@ none-owed marks tally from k t e = picked-none (owes tally) 0 64
               (λ x q. rw (at x, eqb-true (getD marks x 0) u q) (lt-ltb u 64 h)),
         )
 
+-- and the counts stay
 pub removed-none : (n time : ℕ) (marks tally : List ℕ) (from k : ℕ) (img : List ℕ) → Tallies marks k tally
     → length (picked (marked marks from) from k) ≡ 0
-    → each zeroed (puts img (clockSet n time ∷ [])) (picked (marked marks from) from k)
+    → each (freed n) (puts img (clockSet n time ∷ [])) (picked (marked marks from) from k)
     ≡ removedBy n time marks tally from k img
 unfolding each
-removed-none n time marks tally from k img t e =
-    let bs : List ℕ = picked (marked marks from) from k in
-    let s : List ℕ = each zeroed (puts img (clockSet n time ∷ [])) bs in
-    rw (none-owed marks tally from k t e) (sym (pass-none (mapFreed n) s bs e))
+removed-none n time marks tally from k img t e = rw (none-owed marks tally from k t e)

@@ -1,6 +1,6 @@
 -- Scavenge, outcome by outcome: what the marks say is what the promise says.
 -- Assumes nothing.
-use Prim.Native.Nat.{ℕ, _+_, _-_, _≤_, _<_, min}
+use Prim.Native.Nat.{ℕ, _+_, _-_, _≤_, _<_}
 use mathlib.Core.Path.{_≡_, refl, sym, ap, _∙_}
 use mathlib.Core.Bool.{Bool, true, false, not, _&&_}
 use mathlib.Core.List.{List, [], _∷_, _++_, map}
@@ -10,6 +10,7 @@ use lib.Dec.{eqb, leb, ltb}
 use lib.ListN.{length, getD}
 use Rattle.plain.specs.Tests.{both, neither}
 use Rattle.word.specs.Write.{puts}
+use Rattle.run.specs.Run as Run
 use Rattle.run.specs.Run.{picked, allOf, each, Every, times}
 use Rattle.run.specs.Laws.{all-each, all-same, every-picked}
 use Rattle.run.specs.Tally.{picked-same, times-picked}
@@ -21,34 +22,36 @@ use Rattle.kinds.specs.declared.Tick.{Tick}
 use Rattle.tariff.specs.Charges.{scavengeCharge}
 use Rattle.tariff.specs.declared.Tariff.{Tariff}
 use Rattle.promise.specs.Trailer.{nOf, clockSet}
-use Rattle.promise.specs.Header.{headerOf, isUsed, ownerOf, expiresOf, headerZeroed}
+use Rattle.promise.specs.Header.{headerOf, isUsed, ownerOf, expiresOf}
 use Rattle.promise.proofs.HeaderLaws.{client}
+use Rattle.promise.proofs.ScavengeLaws.{free-in-turn}
 use Rattle.promise.specs.Map.{good}
 use Rattle.promise.specs.Counts.{countOf}
 use Rattle.promise.specs.Refusals.{Row, row, lowest, receipt, refusal}
 use Rattle.promise.proofs.RefusalLaws.{rising}
 use Rattle.promise.specs.Keys.{reach, keyAt, visitedGood}
 use Rattle.promise.specs.Scavenge.{expired, gone, goneOf, scavengeDamaged, scavengeRows, scavengeReport}
-use Rattle.promise.specs.Scavenge.{scavenged, scavengeImage, scavengeAnswer, ScavengePromise, mapFreed}
+use Rattle.promise.specs.Scavenge.{scavenged, scavengeImage, scavengeAnswer, ScavengePromise, countLowered}
 use Rattle.front.specs.Rows.{readingRows, timeRows, changingRows, frontOf}
 use Rattle.front.specs.declared.Front.the-variants.{Shut, Open}
 use Rattle.front.proofs.Fronts.{told-open, changing-rising, no-expiry}
-use Rattle.keys.specs.Marks.{markOf, marked, marksOf, zeroed, removedBy, Marks, Tallies}
+use Rattle.keys.specs.Marks.{markOf, marked, marksOf, freed, removedBy, Marks, Tallies}
 use Rattle.keys.specs.Asked.{managerRows}
 use Rattle.keys.proofs.Rows.{Refused, in-front, by-numbers, by-headers}
 use Rattle.keys.proofs.Marks.{moved}
-use Rattle.keys.proofs.Lowers.{Counted, low, low-agree, lowers, swept}
-use Rattle.word.specs.Word.{Bytes}
+use Rattle.keys.proofs.Lowers.{low, low-agree, lowers, swept}
+use Rattle.word.specs.Word.{Bytes, bytesOf}
+use Rattle.word.specs.Laws.{sizes, length-over}
 use Rattle.promise.proofs.TrailerLaws.{Number}
-use Rattle.promise.specs.Layout.{sizeOf}
+use Rattle.promise.specs.Layout.{sizeOf, trailerAt}
 use Rattle.image.specs.Image.{Laid}
 
 -- ---- runs
 
--- what holds of each number of a list, mapped
-every-map : (g : ℕ → ℕ) (P : ℕ → Type 0) (bs : List ℕ) → Every (λ b. P (g b)) bs → Every P (map g bs)
-every-map g P [] e = e
-every-map g P (b ∷ bs) e = (e .0, every-map g P bs (e .1))
+-- what holds of each number of a list says of the mapped list
+every-map : (g : ℕ → ℕ) (P Q : ℕ → Type 0) → ((b : ℕ) → P b → Q (g b)) → (bs : List ℕ) → Every P bs → Every Q (map g bs)
+every-map g P Q f [] e = e
+every-map g P Q f (b ∷ bs) e = (f b (e .0), every-map g P Q f bs (e .1))
 
 -- a change at f of each number of a list is one at each number of the mapped list
 each-map : {S : Type 0} (f : S → ℕ → S) (g : ℕ → ℕ) (s : S) (bs : List ℕ)
@@ -56,11 +59,6 @@ each-map : {S : Type 0} (f : S → ℕ → S) (g : ℕ → ℕ) (s : S) (bs : Li
 unfolding each
 each-map f g s [] = refl
 each-map f g s (b ∷ bs) = each-map f g (f s (g b)) bs
-
-zeroes : (s : List ℕ) (bs : List ℕ) → each zeroed s bs ≡ puts s (map headerZeroed bs)
-unfolding each puts
-zeroes s [] = refl
-zeroes s (b ∷ bs) = zeroes (zeroed s b) bs
 
 twice : (t : Bool) → t ≡ not (not t)
 twice true = refl
@@ -113,7 +111,7 @@ module _ (img : List ℕ) (time from k : ℕ) (marks : List ℕ) (f : Marks img 
 
   -- ---- and the headers visited are those that a call reaches
 
-  module _ (n : ℕ) (its : nOf img ≡ n) (e : k ≡ min 64 (n - from)) where
+  module _ (n : ℕ) (its : nOf img ≡ n) (e : k ≡ Run.reach n from) where
     its-reach : k ≡ reach img from
     its-reach = rw its e
 
@@ -144,34 +142,30 @@ module _ (img : List ℕ) (time from k : ℕ) (marks : List ℕ) (f : Marks img 
         y u h ∙ marks-of u h ∙ ap (λ (x : ℕ). length (picked (goneHis u) from x)) its-reach
         ∙ sym (times-picked (expired img time) (λ b. ownerOf (headerOf img b)) u from (reach img from))
 
-    -- their owners are clients, and their numbers are below n
-    owners-below : Every (λ u. u < 64) (map (λ b. ownerOf (headerOf img b)) (gone img from time))
+    -- their numbers are below n, and their owners are clients
+    blocks : Every (λ b. (b < n) × (ownerOf (headerOf img b) < 64)) (gone img from time)
     unfolding gone
-    owners-below =
-        every-map (λ b. ownerOf (headerOf img b)) (λ u. u < 64) (picked (expired img time) from (reach img from))
-        (every-picked (expired img time) (λ b. ownerOf (headerOf img b) < 64) from (reach img from)
-        (λ b l u x. owner-below b l (omega (arith, its-reach)) x))
-
-    numbers-below : Every (λ b. b < n) (gone img from time)
-    unfolding gone
-    numbers-below = every-picked (expired img time) (λ b. b < n) from (reach img from)
-        (λ b l u x. omega (arith, its-reach, e))
+    blocks = every-picked (expired img time) _ from (reach img from)
+        (λ b l u x. (omega (arith, its-reach, e), owner-below b l (omega (arith, its-reach)) x))
 
     removed-is : Number n → length img ≡ sizeOf n → Bytes img → (tally : List ℕ) → Tallies marks k tally
         → removedBy n time marks tally from k img ≡ scavenged img from time
     unfolding scavenged puts
     removed-is r z y tally t =
         let bs : List ℕ = gone img from time in
-        let s : List ℕ = each (mapFreed n) (each zeroed (puts img (clockSet n time ∷ [])) bs) bs in
         let us : List ℕ = map (λ b. ownerOf (headerOf img b)) bs in
-        let c : Counted n s = swept n r img time bs numbers-below z y in
-        rw (gone-is, its, ← zeroes)
+        let s₀ : List ℕ = puts img (clockSet n time ∷ []) in
+        let s : List ℕ = each (freed n) s₀ bs in
+        let q : length s₀ ≡ sizeOf n = length-over img (trailerAt n + 24) (bytesOf 8 time) (simp sizes (omega arith))
+        ∙ z in
+        rw (gone-is, its)
         (low-agree n (λ u. getD tally u 0) (λ u. times u us) 64 0 s (tally-times tally t)
-        ∙ sym (lowers n us owners-below s c)
-        ∙ sym (each-map (λ s u. low n u 1 s) (λ b. ownerOf (headerOf img b)) s bs))
+        ∙ sym (lowers n us (every-map _ _ (λ u. u < 64) (λ b p. p .1) bs blocks) s (swept n img r time bs blocks z y))
+        ∙ sym (each-map (λ s u. low n u 1 s) (λ b. ownerOf (headerOf img b)) s bs)
+        ∙ ap (λ x. each (countLowered n img) x bs) (sym (free-in-turn n img r s₀ bs q blocks)))
 
 -- a header visited is not good
-pub bad-header : (img : List ℕ) (time from k n : ℕ) → nOf img ≡ n → k ≡ min 64 (n - from)
+pub bad-header : (img : List ℕ) (time from k n : ℕ) → nOf img ≡ n → k ≡ Run.reach n from
     → visitedGood img from k ≡ false → false ≡ not (scavengeDamaged img from time)
 unfolding scavengeDamaged
 bad-header img time from k n its e g =
@@ -238,7 +232,7 @@ module _ (img : List ℕ) (client key time : ℕ) where
           refl,
         )
 
-        pub sweeps : not (scavengeDamaged img key time) ≡ true → (m : ℕ) → m ≡ min 64 (n - key)
+        pub sweeps : not (scavengeDamaged img key time) ≡ true → (m : ℕ) → m ≡ Run.reach n key
             → (marks : List ℕ) → Marks img time key m marks → (tally : List ℕ) → Tallies marks m tally
             → Laid img n → Bytes img → (a : ScavengeAnswer) (img′ : List ℕ)
             → a ≡ record {

@@ -37,9 +37,9 @@ hasCount n img tally u = leb (getD tally u 0) (countOf n img u)
 abbrev pub Tallies : (marks : List ℕ) (k : ℕ) (tally : List ℕ) → Type 0
 Tallies marks k tally = (u : ℕ) → u < 64 → getD tally u 0 ≡ marksOf marks k u
 
--- the header of a block zeroed; a client's count lowered by k, and by its tally, where it has one
-abbrev pub zeroed : List ℕ → ℕ → List ℕ
-zeroed s b = puts s (headerZeroed b ∷ [])
+-- the header of a block zeroed, then its bit freed; a client's count lowered by k, and by its tally, where it has one
+abbrev pub freed : (n : ℕ) → List ℕ → ℕ → List ℕ
+freed n s b = mapFreed n (puts s (headerZeroed b ∷ [])) b
 
 abbrev pub lowered : (n u k : ℕ) → List ℕ → List ℕ
 lowered n u k s = puts s (countSet n u (countOf n s u - k) ∷ [])
@@ -50,12 +50,12 @@ owes tally u = ltb 0 (getD tally u 0)
 abbrev pub loweredBy : (n : ℕ) (tally : List ℕ) → List ℕ → ℕ → List ℕ
 loweredBy n tally s u = lowered n u (getD tally u 0) s
 
--- the changes of one call, in the order of the stores: the clock, the headers from the lowest, the map, the counts
+-- the changes of one call, in the order of the stores: the clock, header and bit of each block from the lowest, the
+-- counts
 abbrev pub removedBy : (n time : ℕ) (marks tally : List ℕ) (from k : ℕ) → List ℕ → List ℕ
 removedBy n time marks tally from k img =
     let bs : List ℕ = picked (marked marks from) from k in
-    each (loweredBy n tally) (each (mapFreed n) (each zeroed (puts img (clockSet n time ∷ [])) bs) bs)
-    (picked (owes tally) 0 64)
+    each (loweredBy n tally) (each (freed n) (puts img (clockSet n time ∷ [])) bs) (picked (owes tally) 0 64)
 
 -- the first k marks are those of the blocks from a number upward
 abbrev pub Marks : (img : List ℕ) (time from k : ℕ) (marks : List ℕ) → Type 0

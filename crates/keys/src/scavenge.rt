@@ -1,21 +1,22 @@
 // Scavenge: all is decided before a byte is stored. What is to go is kept in marks, one for each header visited.
 ghost use mathlib.Core.Path.{_≡_};
 ghost use mathlib.Core.Bool.{true, not, cond};
-ghost use Prim.Native.Nat.{ℕ, _+_, _-_, _≤_, _<_, min};
+ghost use Prim.Native.Nat.{ℕ, _+_, _-_, _≤_, _<_};
 ghost use lib.Dec.{ltb};
 ghost use lib.ListN.{length, getD};
 ghost use Rattle.plain.specs.Tests.{when};
 ghost use Rattle.kinds.specs.declared.Report.the-variants.{Success};
 ghost use Rattle.tariff.specs.Charges.{scavengeCharge};
+ghost use Rattle.run.specs.Run as Run;
 ghost use Rattle.run.specs.Run.{picked, allOf, each};
 ghost use Rattle.promise.specs.Layout.{headerAt};
 ghost use Rattle.promise.specs.Refusals.{lowest, receipt, refusal};
 ghost use Rattle.promise.specs.Keys.{keyAt};
-ghost use Rattle.promise.specs.Scavenge.{scavengeDamaged, mapFreed, ScavengePromise};
+ghost use Rattle.promise.specs.Scavenge.{scavengeDamaged, ScavengePromise};
 ghost use Rattle.image.specs.Image.{Laid, Known};
 ghost use Rattle.front.specs.Rows.{changingRows, frontOf};
 ghost use Rattle.front.specs.declared.Front.the-variants.{Open};
-ghost use Rattle.keys.specs.Marks.{markOf, marked, raisedAt, hasCount, zeroed, lowered, owes, loweredBy};
+ghost use Rattle.keys.specs.Marks.{markOf, marked, raisedAt, hasCount, freed, lowered, owes, loweredBy};
 ghost use Rattle.keys.specs.Marks.{removedBy, Marks, Tallies};
 use crate::key_at;
 use crate::managed;
@@ -58,18 +59,6 @@ fn mark(img: &[u8], time: Tick, b: usize) -> u32
     owner.0
 }
 
-// Marks the blocks visited.
-fn mark_all(img: &[u8], time: Tick, from: usize, visited: usize, marks: &mut [u32])
-    requires { ⌜ (headerAt (from + visited) ≤ length (now img)) × (visited ≤ 64) × (length (now marks) ≡ 64) ⌝ }
-    ensures { λ _. ⌜ Marks (now (img .entry)) (time .0) from visited (now (marks .exit)) ⌝ }
-{
-    let mut i = 0;
-    while i < visited {
-        marks[i] = mark(img, time, from + i);
-        i += 1;
-    }
-}
-
 // One more for the owner of a block that is to go.
 fn tally_mark(mark: u32, tally: &mut [u32])
     requires { ⌜ (length (now tally) ≡ 64) × ((u : ℕ) → u < 64 → getD (now tally) u 0 ≤ 64) ⌝ }
@@ -83,19 +72,26 @@ fn tally_mark(mark: u32, tally: &mut [u32])
     }
 }
 
-// Counts the marks of each owner.
-fn tally_marks(marks: &[u32], visited: usize, tally: &mut [u32])
-    requires { ⌜ (visited ≤ 64) × (length (now marks) ≡ 64) × (length (now tally) ≡ 64)
-        × ((u : ℕ) → getD (now tally) u 0 ≡ 0) ⌝ }
-    ensures { λ _. ⌜ Tallies (now (marks .entry)) visited (now (tally .exit)) ⌝ }
+// Marks the blocks visited, and counts the marks of each owner.
+fn mark_all(
+    img: &[u8],
+    time: Tick,
+    from: usize,
+    visited: usize,
+    marks: &mut [u32],
+    tally: &mut [u32],
+)
+    requires { ⌜ (headerAt (from + visited) ≤ length (now img)) × (visited ≤ 64) × (length (now marks) ≡ 64)
+        × (length (now tally) ≡ 64) × ((u : ℕ) → getD (now tally) u 0 ≡ 0) ⌝ }
+    ensures marks { λ _. ⌜ Marks (now (img .entry)) (time .0) from visited (now (marks .exit)) ⌝ }
+    ensures tally { λ _. ⌜ Tallies (now (marks .exit)) visited (now (tally .exit)) ⌝ }
 {
-    let mut i: usize = 0;
-    let mut left = visited;
-    while 0 < left {
-        let m = marks[i];
+    let mut i = 0;
+    while i < visited {
+        let m = mark(img, time, from + i);
+        marks[i] = m;
         tally_mark(m, tally);
         i += 1;
-        left -= 1;
     }
 }
 
@@ -125,24 +121,25 @@ fn has_counts(img: &[u8], n: usize, tally: &[u32]) -> bool
     true
 }
 
-// Zeroes the header of a block with this mark, where it is to go; 1 where it is, else 0.
-fn zero_one(img: &mut [u8], b: usize, mark: u32) -> usize
-    requires { ⌜ (headerAt b + 64 ≤ length (now img)) × (b < 4096) ⌝ }
+// Zeroes the header of a block with this mark and frees its bit, where it is to go; 1 where it is, else 0.
+fn free_one(img: &mut [u8], n: usize, b: usize, mark: u32) -> usize
+    requires { ⌜ Laid (now img) n × (b < n) ⌝ }
     ensures gone { λ r. ⌜ r ≡ cond (ltb mark 64) 1 0 ⌝ }
-    ensures image { λ r. ⌜ now (img .exit) ≡ when (ltb mark 64) (zeroed (now (img .entry)) b) (now (img .entry)) ⌝ }
+    ensures image { λ r. ⌜ now (img .exit) ≡ when (ltb mark 64) (freed n (now (img .entry)) b) (now (img .entry)) ⌝ }
 {
     if STAYS <= mark {
         return 0;
     }
     header::zero_header(img, BlockNum(b as u32));
+    map::free_bit(img, n, BlockNum(b as u32));
     1
 }
 
-// Zeroes the headers of the blocks that are to go, from the lowest; their number.
-fn zero_headers(img: &mut [u8], n: usize, from: usize, visited: usize, marks: &[u32]) -> usize
+// Zeroes the headers and frees the bits of the blocks that are to go, from the lowest; their number.
+fn free_blocks(img: &mut [u8], n: usize, from: usize, visited: usize, marks: &[u32]) -> usize
     requires { ⌜ Laid (now img) n × (from + visited ≤ n) × (visited ≤ 64) × (length (now marks) ≡ 64) ⌝ }
     ensures gone { λ r. ⌜ r ≡ length (picked (marked (now (marks .entry)) from) from visited) ⌝ }
-    ensures image { λ r. ⌜ now (img .exit) ≡ each zeroed (now (img .entry))
+    ensures image { λ r. ⌜ now (img .exit) ≡ each (freed n) (now (img .entry))
         (picked (marked (now (marks .entry)) from) from visited) ⌝ }
 {
     let mut b = from;
@@ -150,36 +147,11 @@ fn zero_headers(img: &mut [u8], n: usize, from: usize, visited: usize, marks: &[
     let mut k = 0;
     while 0 < left {
         let m = marks[b - from];
-        k += zero_one(img, b, m);
+        k += free_one(img, n, b, m);
         b += 1;
         left -= 1;
     }
     k
-}
-
-fn free_one(img: &mut [u8], n: usize, b: usize, mark: u32)
-    requires { ⌜ Laid (now img) n × (b < n) ⌝ }
-    ensures { λ _. ⌜ now (img .exit) ≡ when (ltb mark 64) (mapFreed n (now (img .entry)) b) (now (img .entry)) ⌝ }
-{
-    if mark < STAYS {
-        map::free_bit(img, n, BlockNum(b as u32));
-    }
-}
-
-// Frees the bits of the blocks that are to go.
-fn free_bits(img: &mut [u8], n: usize, from: usize, visited: usize, marks: &[u32])
-    requires { ⌜ Laid (now img) n × (from + visited ≤ n) × (visited ≤ 64) × (length (now marks) ≡ 64) ⌝ }
-    ensures { λ _. ⌜ now (img .exit) ≡ each (mapFreed n) (now (img .entry))
-        (picked (marked (now (marks .entry)) from) from visited) ⌝ }
-{
-    let mut b = from;
-    let mut left = visited;
-    while 0 < left {
-        let m = marks[b - from];
-        free_one(img, n, b, m);
-        b += 1;
-        left -= 1;
-    }
 }
 
 // So many less; 0 where there are fewer.
@@ -217,7 +189,7 @@ fn lower_counts(img: &mut [u8], n: usize, tally: &[u32])
     }
 }
 
-// Removes the blocks that are to go: the clock, the headers from the lowest, the map, the counts. Their number.
+// Removes the blocks that are to go: the clock, their headers and bits from the lowest, the counts. Their number.
 fn remove(
     img: &mut [u8],
     n: usize,
@@ -235,9 +207,8 @@ fn remove(
         (now (img .entry)) ⌝ }
 {
     trailer::set_clock(img, n, time);
-    let count = zero_headers(img, n, from, visited, marks);
+    let count = free_blocks(img, n, from, visited, marks);
     if 0 < count {
-        free_bits(img, n, from, visited, marks);
         lower_counts(img, n, tally);
     }
     count
@@ -255,7 +226,7 @@ fn decide(
     marks: &mut [u32],
     tally: &mut [u32],
 ) -> bool
-    requires { ⌜ Known (now img) n (clock .0) × (from + visited ≤ n) × (visited ≡ min 64 (n - from))
+    requires { ⌜ Known (now img) n (clock .0) × (from + visited ≤ n) × (visited ≡ Run.reach n from)
         × (length (now marks) ≡ 64) × (length (now tally) ≡ 64) × ((u : ℕ) → getD (now tally) u 0 ≡ 0) ⌝ }
     ensures answer { λ r. ⌜ r ≡ not (scavengeDamaged (now (img .entry)) from (time .0)) ⌝ }
     ensures marks { λ r. ⌜ (r ≡ true → Marks (now (img .entry)) (time .0) from visited (now (marks .exit))) ⌝ }
@@ -264,8 +235,7 @@ fn decide(
     if !visit::all_good(img, n, clock, from, visited) {
         return false;
     }
-    mark_all(img, time, from, visited, marks);
-    tally_marks(marks, visited, tally);
+    mark_all(img, time, from, visited, marks, tally);
     has_counts(img, n, tally)
 }
 

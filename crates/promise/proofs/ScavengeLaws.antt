@@ -96,11 +96,25 @@ module _ (n : ℕ) (img : List ℕ) (r : Number n) where
   lower-both s b c q p t =
       lower-free (zeroed s c) b c (keeps-zeroed s c q t) p t ∙ ap (λ x. freed x c) (lower-zero s b c q p t)
 
-  -- all headers, then all bits, then all counts: the same as block by block
+  -- the writes of the headers, as changes one after the other
+  zeroes : (s : List ℕ) (bs : List ℕ) → puts s (map headerZeroed bs) ≡ each zeroed s bs
+  unfolding puts each
+  zeroes s [] = refl
+  zeroes s (b ∷ bs) = zeroes (zeroed s b) bs
+
+  -- all headers, then all bits: the same as both at each block in turn
+  pub free-in-turn : (s : List ℕ) (bs : List ℕ) → Image s → Every Block bs
+      → each freed (puts s (map headerZeroed bs)) bs ≡ each (λ s b. freed (zeroed s b) b) s bs
+  free-in-turn s bs q e =
+      ap (λ x. each freed x bs) (zeroes s bs)
+      ∙ each-both Image Block zeroed freed keeps-zeroed keeps-freed free-zero s bs q e
+
+  -- and then all counts: the same as block by block
   in-turn : (s : List ℕ) (bs : List ℕ) → Image s → Every Block bs
-      → each lowered (each freed (each zeroed s bs) bs) bs ≡ each (λ s b. lowered (freed (zeroed s b) b) b) s bs
+      → each lowered (each freed (puts s (map headerZeroed bs)) bs) bs
+      ≡ each (λ s b. lowered (freed (zeroed s b) b) b) s bs
   in-turn s bs q e =
-      ap (λ x. each lowered x bs) (each-both Image Block zeroed freed keeps-zeroed keeps-freed free-zero s bs q e)
+      ap (λ x. each lowered x bs) (free-in-turn s bs q e)
       ∙ each-both Image Block (λ s b. freed (zeroed s b) b) lowered both-kept keeps-lowered lower-both s bs q e
 
   -- one block: the bit and the count are read before the header is zeroed or after it
@@ -117,12 +131,6 @@ module _ (n : ℕ) (img : List ℕ) (r : Number n) where
       let g : countsOf n z ≡ countsOf n s =
       frame s (headerAt b) (blank 64) (simp sizes (omega arith)) (countAt n 0) 512 (simp sizes (omega arith)) in
       rw (f, g, e)
-
-  -- the writes of the headers, as changes one after the other
-  zeroes : (s : List ℕ) (bs : List ℕ) → puts s (map headerZeroed bs) ≡ each zeroed s bs
-  unfolding puts each
-  zeroes s [] = refl
-  zeroes s (b ∷ bs) = zeroes (zeroed s b) bs
 
   blockwise : (s : List ℕ) (bs : List ℕ) → Image s → Every Block bs
       → each (λ s b. lowered (freed (zeroed s b) b) b) s bs ≡ each (removed n img) s bs
@@ -147,7 +155,7 @@ scavenge-removes img key time r l e =
     let bs : List ℕ = gone img key time in
     let s : List ℕ = over img (trailerAt n + 24) (bytesOf 8 time) in
     let q : length s ≡ sizeOf n = length-over img (trailerAt n + 24) (bytesOf 8 time) (simp sizes (omega arith)) ∙ l in
-    rw (zeroes n img r s bs) (in-turn n img r s bs q e ∙ blockwise n img r s bs q e)
+    in-turn n img r s bs q e ∙ blockwise n img r s bs q e
 
 -- where all visited headers are good, such blocks they are
 pub gone-blocks : (img : List ℕ) (key time : ℕ) → key < nOf img → visitedGood img key (reach img key) ≡ true

@@ -19,18 +19,17 @@ returns c =
 
 returns-2 : tie.Need-returns-2
 returns-2 c =
-    let y = c .before .before .before .before .tally-marks in
-    let v = c .before .before .before .before .before .before .before .before .before .mark-all in
-    let i = c .before .before .before .before .before .before .before .before .before .before .before in
-    let a = c .before .before .before .before .before .before .before .before .before .before .before .before .before
-    .before .before .before .args in
-    let p = c .before .before .before .before .before .before .before .before .before .before .before .before .before
-    .before .before .before .pre in
+    let v = c .before .before .before .before .before .before .mark-all in
+    let i = c .before .before .before .before .before .before .before .before .before in
+    let s = i .before .before .before .before .before in
+    let a = s .args in
     let marks = v .last .1 .1 .1 .1 .0 in
     let g = sym (i .before .all-good .ensures) ∙ not-false _ (i .if1 .left) in (
-      c .has-counts .ensures ∙ by-tally (a .n) (now (a .img)) (y .last .1 .1 .0) marks (a .visited) (y .ensures)
-          ∙ decided (now (a .img)) (a .time .0) (a .from) (a .visited) marks (v .ensures) g (a .n) (p .0 .its-n) (p .2),
-      (λ e. v .ensures, λ e. y .ensures),
+      c .has-counts .ensures
+          ∙ by-tally (a .n) (now (a .img)) (v .last .1 .1 .1 .1 .1 .0) marks (a .visited) (v .ensures .1)
+          ∙ decided (now (a .img)) (a .time .0) (a .from) (a .visited) marks (v .ensures .0) g (a .n) (s .pre .0 .its-n)
+          (s .pre .2),
+      (λ e. v .ensures .0, λ e. v .ensures .1),
     )
 
 pub decide-spec : {M : Type 1} → statement M
@@ -39,7 +38,6 @@ decide-spec =
     (tie.spec
     (λ c κs. search needs)
     returns
-    (λ c κs. search needs)
     (λ c κs. search needs)
     (λ c κs. search needs)
     (λ c. search needs)

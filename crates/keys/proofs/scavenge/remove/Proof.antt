@@ -1,4 +1,4 @@
--- `keys::scavenge::remove` meets its contract: the stores, one after the other; where nothing is to go, the map and the
+-- `keys::scavenge::remove` meets its contract: the stores, one after the other; where no block is to go, the
 -- counts stay.
 -- Assumes nothing.
 use native.Mathlib.Omega.{arith}
@@ -11,15 +11,13 @@ use Rattle.keys.proofs.scavenge.remove.Tie as tie
 returns : tie.Need-returns
 returns c =
     let l = c .before .before .lower-counts in
-    let f = c .before .before .before .before .before .before .free-bits in
-    let z = c .before .before .before .before .before .before .before .before .before .before .before .zero-headers in
-    let k = c .before .before .before .before .before .before .before .before .before .before .before .before .before
-    .before .before .set-clock in
-    (z .ensures .0, rw (l .ensures, f .ensures, z .ensures .1, k .ensures))
+    let f = c .before .before .before .before .before .before .before .free-blocks in
+    let k = c .before .before .before .before .before .before .before .before .before .before .before .set-clock in
+    (f .ensures .0, rw (l .ensures, f .ensures .1, k .ensures))
 
 returns-2 : tie.Need-returns-2
 returns-2 c =
-    let z = c .before .before .before .zero-headers in
+    let z = c .before .before .before .free-blocks in
     let k = c .before .before .before .before .before .before .before .set-clock in
     let a = c .before .before .before .before .before .before .before .before .before .before .before .before .args in
     let p = c .before .before .before .before .before .before .before .before .before .before .before .before .pre in (
@@ -34,7 +32,6 @@ pub remove-spec : {M : Type 1} → statement M
 remove-spec =
     tie.close
     (tie.spec
-    (λ c κs. search needs)
     (λ c κs. search needs)
     (λ c κs. search needs)
     (λ c κs. search needs)
