@@ -1,6 +1,6 @@
 //! What the verbs are given, read: the image, the client, the tariff, an id, a block's bytes.
 use crate::arguments::Arguments;
-use crate::image_file::{self, said, Fault};
+use crate::image_file::{self, said, FileFault};
 use crate::{tariff_file, time, Stop};
 use std::io::{self, IsTerminal, Read};
 use std::path::Path;
@@ -10,8 +10,8 @@ pub fn is_stream(path: &Path) -> bool {
     path == Path::new("-")
 }
 
-pub fn failed(path: &Path, fault: Fault) -> Stop {
-    let (Fault::Length(what) | Fault::Other(what)) = fault;
+pub fn failed(path: &Path, fault: FileFault) -> Stop {
+    let (FileFault::Length(what) | FileFault::Other(what)) = fault;
     Stop::File(format!("{}: {what}", path.display()))
 }
 

@@ -9,18 +9,33 @@ fn option(opt: &Opt) -> String {
     }
 }
 
-/// How a verb is called, on one line.
+/// How a verb is called.
 pub fn synopsis(verb: &Verb) -> String {
     let words = verb.words.iter().map(|w| w.to_string());
     let maybe = verb.maybe.iter().map(|w| format!("[{w}]"));
     let needed = verb.needed.iter().map(option);
     let rest = verb.optional.iter().map(|o| format!("[{}]", option(o)));
-    let parts: Vec<String> = words.chain(maybe).chain(needed).chain(rest).collect();
-    format!("zolvortug {} {}", verb.name, parts.join(" "))
+    wrapped(
+        format!("zolvortug {}", verb.name),
+        words.chain(maybe).chain(needed).chain(rest),
+    )
+}
+
+/// Parts after a beginning, on lines of at most 100 signs.
+fn wrapped(begin: String, parts: impl Iterator<Item = String>) -> String {
+    let (mut text, mut line) = (String::new(), begin);
+    for part in parts {
+        if line.len() + part.len() >= 100 {
+            text += &format!("{line}\n");
+            line = "   ".into();
+        }
+        line += &format!(" {part}");
+    }
+    text + &line
 }
 
 pub fn of_verb(verb: &Verb) -> String {
-    let mut text = format!("{}\n\n{}\n\n{}\n\n", wrapped(&synopsis(verb)), verb.what, verb.more);
+    let mut text = format!("{}\n\n{}\n\n{}\n\n", synopsis(verb), verb.what, verb.more);
     for opt in verb.options() {
         text += &format!("  {:<18}{}\n", option(opt), opt.what);
     }
@@ -37,22 +52,4 @@ pub fn of_command() -> String {
         and a changed one goes to standard output.\n\
         \n\
         exit status: 0 done, 1 not sound, 2 wrongly called, 3 a file failed, 100 + n refused with report n\n"
-}
-
-/// A synopsis on lines of at most 100 signs, broken before an option.
-pub fn wrapped(synopsis: &str) -> String {
-    let mut lines = vec![String::new()];
-    for part in synopsis
-        .replace(" [", "\0[")
-        .replace(" --", "\0--")
-        .replace("[\0--", "[--")
-        .split('\0')
-    {
-        match lines.last_mut() {
-            Some(line) if line.is_empty() => line.push_str(part),
-            Some(line) if line.len() + part.len() < 100 => *line += &format!(" {part}"),
-            _ => lines.push(format!("    {part}")),
-        }
-    }
-    lines.join("\n")
 }

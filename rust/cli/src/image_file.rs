@@ -7,14 +7,14 @@ use std::os::unix::fs::{FileExt, MetadataExt};
 use std::path::{Path, PathBuf};
 
 /// A file whose length fits no image is no image: what is wrong, in words.
-pub enum Fault {
+pub enum FileFault {
     Length(String),
     Other(String),
 }
 
-impl From<io::Error> for Fault {
-    fn from(e: io::Error) -> Fault {
-        Fault::Other(said(&e))
+impl From<io::Error> for FileFault {
+    fn from(e: io::Error) -> FileFault {
+        FileFault::Other(said(&e))
     }
 }
 
@@ -24,12 +24,12 @@ pub fn said(e: &io::Error) -> String {
     text.split(" (os error").next().unwrap_or(&text).to_string()
 }
 
-fn other<T>(what: &str) -> Result<T, Fault> {
-    Err(Fault::Other(what.to_string()))
+fn other<T>(what: &str) -> Result<T, FileFault> {
+    Err(FileFault::Other(what.to_string()))
 }
 
 /// The bytes of an image, from a file or, where it is called -, from standard input: as they stood at one moment.
-pub fn read(path: &Path) -> Result<Vec<u8>, Fault> {
+pub fn read(path: &Path) -> Result<Vec<u8>, FileFault> {
     if path == Path::new("-") {
         return whole(io::stdin().lock());
     }
@@ -40,7 +40,7 @@ pub fn read(path: &Path) -> Result<Vec<u8>, Fault> {
     whole(file)
 }
 
-fn opened(path: &Path, options: &OpenOptions) -> Result<File, Fault> {
+fn opened(path: &Path, options: &OpenOptions) -> Result<File, FileFault> {
     if fs::metadata(path)?.is_dir() {
         return other("a directory, and no image");
     }
@@ -48,13 +48,13 @@ fn opened(path: &Path, options: &OpenOptions) -> Result<File, Fault> {
 }
 
 /// All bytes of an image, and no more of a longer file than it takes to see that it is none.
-fn whole(mut from: impl Read) -> Result<Vec<u8>, Fault> {
+fn whole(mut from: impl Read) -> Result<Vec<u8>, FileFault> {
     let most = sizes().map(|(_, size)| size).max().unwrap_or(0);
     let mut bytes = Vec::new();
     from.by_ref().take(most as u64 + 1).read_to_end(&mut bytes)?;
     match Layout::of(bytes.len()) {
         Some(_) => Ok(bytes),
-        None => Err(Fault::Length(wrong_length(&bytes))),
+        None => Err(FileFault::Length(wrong_length(&bytes))),
     }
 }
 
@@ -93,7 +93,7 @@ pub struct ImageFile {
 }
 
 impl ImageFile {
-    pub fn open(path: &Path) -> Result<ImageFile, Fault> {
+    pub fn open(path: &Path) -> Result<ImageFile, FileFault> {
         let mut file = locked(path)?;
         while !is_still(&file, path) {
             file = locked(path)?;
@@ -122,7 +122,7 @@ impl ImageFile {
     }
 
     /// Takes the file to another image of its length, write by write.
-    pub fn commit(&mut self, image: &[u8]) -> Result<(), Fault> {
+    pub fn commit(&mut self, image: &[u8]) -> Result<(), FileFault> {
         let writes = writes(&self.disk, image);
         for (done, write) in writes.iter().enumerate() {
             if self.power == 0 {
@@ -130,29 +130,26 @@ impl ImageFile {
             }
             self.power -= 1;
             let at = DISK * write.block;
-            let written = self
-                .file
-                .write_all_at(&write.bytes, at as u64)
-                .and_then(|()| self.file.sync_data());
-            written.map_err(|e| Fault::Other(half_done(&e, done, writes.len(), &self.path)))?;
+            let wrote = self.file.write_all_at(&write.bytes, at as u64);
+            wrote.map_err(|e| half_done(&e, done, writes.len()))?;
+            self.file
+                .sync_data()
+                .map_err(|e| half_done(&e, done + 1, writes.len()))?;
             self.disk[at..at + DISK].copy_from_slice(&write.bytes);
         }
         Ok(())
     }
 }
 
-fn half_done(e: &io::Error, done: usize, of: usize, path: &Path) -> String {
-    let e = said(e);
-    match done {
-        0 => format!("{e}: nothing was changed"),
-        _ => format!(
-            "{e}: {done} of {of} blocks were written, so the operation is half done; `zolvortug check {}` tells more",
-            path.display()
-        ),
-    }
+fn half_done(e: &io::Error, done: usize, of: usize) -> FileFault {
+    let state = match done {
+        0 => "nothing was changed".to_string(),
+        _ => format!("half done, {done} of {of} blocks were written; `zolvortug check` tells more"),
+    };
+    FileFault::Other(format!("{}: {state}", said(e)))
 }
 
-fn locked(path: &Path) -> Result<File, Fault> {
+fn locked(path: &Path) -> Result<File, FileFault> {
     let of = fs::metadata(path)?;
     if of.is_file() && of.permissions().readonly() {
         return other("read-only");
@@ -166,7 +163,7 @@ fn locked(path: &Path) -> Result<File, Fault> {
 }
 
 /// Takes a lock, or waits until no other command has it, and says so where somebody looks.
-fn wait_for(tried: Result<(), TryLockError>, lock: impl FnOnce() -> io::Result<()>) -> Result<(), Fault> {
+fn wait_for(tried: Result<(), TryLockError>, lock: impl FnOnce() -> io::Result<()>) -> Result<(), FileFault> {
     match tried {
         Ok(()) => Ok(()),
         Err(TryLockError::Error(e)) => Err(e.into()),
@@ -189,7 +186,7 @@ fn is_still(file: &File, path: &Path) -> bool {
 
 /// Makes a file of these bytes: under another name first, and named when it is on the disk. A file that is replaced is
 /// locked against a command that changes it; the folder, where its system has such locks, against one that makes it.
-pub fn create(path: &Path, bytes: &[u8], force: bool) -> Result<(), Fault> {
+pub fn create(path: &Path, bytes: &[u8], force: bool) -> Result<(), FileFault> {
     let path = fs::canonicalize(path).unwrap_or(path.to_path_buf());
     let folder = path
         .parent()
@@ -214,7 +211,7 @@ pub fn create(path: &Path, bytes: &[u8], force: bool) -> Result<(), Fault> {
     let done = written(&draft, bytes).and_then(|()| fs::rename(&draft, &path));
     if let Err(e) = done {
         let _ = fs::remove_file(&draft);
-        return Err(Fault::Other(format!("{}: nothing was made", said(&e))));
+        return Err(FileFault::Other(format!("{}: nothing was made", said(&e))));
     }
     Ok(folder.sync_all()?)
 }

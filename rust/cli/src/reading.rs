@@ -1,7 +1,7 @@
 //! The verbs that read an image: its file as it stood at one moment.
 use crate::arguments::Arguments;
 use crate::given::{client, failed, id_given, is_stream, store_read};
-use crate::image_file::{self, Fault};
+use crate::image_file::{self, FileFault};
 use crate::json::{Field, Json};
 use crate::layout::{blocks_of, clock, disk_block, word, Layout, DISK};
 use crate::terminal::Progress;
@@ -14,7 +14,7 @@ pub fn check(a: &Arguments) -> Result<Answer, Stop> {
     let name = a.file().display().to_string();
     let image = match image_file::read(a.file()) {
         Ok(image) => image,
-        Err(Fault::Length(what)) => return Ok(not_sound(&name, vec![what])),
+        Err(FileFault::Length(what)) => return Ok(not_sound(&name, vec![what])),
         Err(fault) => return Err(failed(a.file(), fault)),
     };
     let (true, Some(layout)) = (zolvortug::check(&image), Layout::of(image.len())) else {

@@ -158,7 +158,7 @@ fn a_full_disk() {
          zolvortug check i",
     )
     .says("3\ni: sound; 0 of 64 blocks used, clock 2020-01-01T00:00:00.100Z\n")
-    .warns("i: No space left on device: 2 of 5 blocks were written, so the operation is half done");
+    .warns("i: No space left on device: half done, 2 of 5 blocks were written");
 }
 
 #[test]
