@@ -1,20 +1,24 @@
 //! What a refusal means, and what to do about it.
 use zolvortug::Report;
 
-pub fn sentence(report: Report) -> String {
-    format!("refused: {} {report:?}: {}", report.number(), what_to_do(report))
+/// A refusal in words, with the hint of the verb that met it or, without one, of its report.
+pub fn sentence(report: Report, hint: Option<&str>) -> String {
+    format!(
+        "refused: {} {report:?}: {}",
+        report.number(),
+        hint.unwrap_or(what_to_do(report))
+    )
 }
 
 fn what_to_do(report: Report) -> &'static str {
     match report {
         Report::BadImage => {
-            "no image of this store. An image has a multiple of 8 blocks, from 8 to 4096, and a trailer that agrees with \
-             its length; `zolvortug check FILE` says what is wrong with this one."
+            "the trailer is not that of an image of this length. `zolvortug check FILE` says what is wrong."
         }
         Report::BadUser => "there is no such client. Clients are 0 to 63, and 0 is the manager.",
         Report::BadTime => {
-            "a time is out of range. The store takes ticks 1 to 2^40 - 1, which is up to 2054-11-03T19:53:47.775Z; look \
-             at --now and --expires."
+            "a time is out of range. The store takes ticks 1 to 2^40 - 1, which is up to 2054-11-03T19:53:47.775Z: look \
+             at --now and --expires, or at the image's clock, which `zolvortug check FILE` shows."
         }
         Report::ClockNotLater => {
             "now is not after the image's clock, the time of its last change. Leave --now out, or give a later one; \
@@ -28,8 +32,8 @@ fn what_to_do(report: Report) -> &'static str {
              zeros."
         }
         Report::Damaged => {
-            "a header or a count that this call looked at is damaged, so it changed nothing. `zolvortug check FILE` \
-             says which."
+            "a header or a count that the call looked at is damaged; the call changed nothing. `zolvortug check FILE` says \
+             which, and which blocks can still be read."
         }
         Report::NoSuchBlock => {
             "no stored block has this id. It may have been destroyed, replaced or scavenged; `zolvortug ids FILE \

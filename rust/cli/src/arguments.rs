@@ -1,6 +1,7 @@
 //! What a verb was given: words, `--name value`, `--name=value` and `--flag`, in any order.
 use crate::verbs::Verb;
 use std::ffi::{OsStr, OsString};
+use std::os::unix::ffi::OsStrExt;
 use std::path::Path;
 use std::str::FromStr;
 
@@ -19,40 +20,51 @@ pub const JSON: Opt = Opt {
 };
 
 pub struct Arguments {
+    verb: &'static Verb,
     words: Vec<OsString>,
     options: Vec<(&'static str, OsString)>,
 }
 
 impl Arguments {
     /// Reads what stands after the verb, and holds it against what the verb takes.
-    pub fn read(verb: &Verb, given: Vec<OsString>) -> Result<Arguments, String> {
+    pub fn read(verb: &'static Verb, given: Vec<OsString>) -> Result<Arguments, String> {
         let mut read = Arguments {
+            verb,
             words: Vec::new(),
             options: Vec::new(),
         };
         let mut given = given.into_iter();
         while let Some(word) = given.next() {
-            match option(&word) {
-                None => read.words.push(word),
-                Some("") => read.words.extend(given.by_ref()),
-                Some(text) => read.take(verb, text, &mut given)?,
+            match word.as_bytes() {
+                b"--" => read.words.extend(given.by_ref()),
+                b"-o" => read.take("out", None, &mut given)?,
+                [b'-', b'-', option @ ..] => {
+                    let mut parts = option.splitn(2, |byte| *byte == b'=');
+                    let name = String::from_utf8_lossy(parts.next().unwrap_or_default());
+                    read.take(&name, parts.next().map(OsStr::from_bytes), &mut given)?
+                }
+                [b'-', _, ..] => return Err(format!("there is no {} here; after -- it is a word", word.display())),
+                _ => read.words.push(word),
             }
         }
-        read.complete(verb)
+        read.complete()
     }
 
-    fn take(&mut self, verb: &Verb, text: &str, rest: &mut impl Iterator<Item = OsString>) -> Result<(), String> {
-        let (name, joined) = text
-            .split_once('=')
-            .map_or((text, None), |(name, value)| (name, Some(value)));
-        let option = verb
+    fn take(
+        &mut self,
+        name: &str,
+        joined: Option<&OsStr>,
+        rest: &mut impl Iterator<Item = OsString>,
+    ) -> Result<(), String> {
+        let option = self
+            .verb
             .options()
             .find(|o| o.name == name)
             .ok_or(format!("there is no --{name} here"))?;
         let value = match (option.value, joined) {
             ("", None) => OsString::new(),
             ("", Some(_)) => return Err(format!("--{name} takes no value")),
-            (_, Some(value)) => value.into(),
+            (_, Some(value)) => value.to_os_string(),
             (value, None) => rest.next().ok_or(format!("--{name} asks for a value, {value}"))?,
         };
         if self.has(name) {
@@ -62,9 +74,13 @@ impl Arguments {
         Ok(())
     }
 
-    fn complete(self, verb: &Verb) -> Result<Arguments, String> {
+    fn complete(self) -> Result<Arguments, String> {
+        let verb = self.verb;
         if let Some(missing) = verb.words.get(self.words.len()) {
             return Err(format!("{missing} is missing"));
+        }
+        if self.words.iter().any(|word| word.is_empty()) {
+            return Err("a word is empty".into());
         }
         if let Some(more) = self.words.get(verb.words.len() + verb.maybe.len()) {
             return Err(format!("'{}' is one word too many", more.display()));
@@ -103,16 +119,13 @@ impl Arguments {
         self.words.get(i).map(|w| w.as_os_str())
     }
 
+    /// Whether the verb takes a block's bytes.
+    pub fn takes_data(&self) -> bool {
+        self.verb.options().any(|o| o.name == "data")
+    }
+
     /// The image's file, which is the first word of every verb that has one.
     pub fn file(&self) -> &Path {
         Path::new(self.word(0).unwrap_or_default())
-    }
-}
-
-/// What stands after the dashes of an option; `-` is a word, and after `--` all are words.
-fn option(word: &OsStr) -> Option<&str> {
-    match word.to_str()? {
-        "-o" => Some("out"),
-        text => text.strip_prefix("--"),
     }
 }

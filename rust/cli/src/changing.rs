@@ -1,7 +1,9 @@
 //! The verbs that change an image, and what they share: the image, and what each change is given.
 use crate::arguments::Arguments;
-use crate::given::{block_given, client, expiry_given, failed, id_given, is_stream, ready_for_an_image, tariff};
-use crate::image_file::{self, ImageFile};
+use crate::given::{
+    block_given, client, expiry_given, failed, id_given, one_stream, ready_for_an_image, shown_id, tariff,
+};
+use crate::image_file::{self, is_stream, ImageFile};
 use crate::layout::{blocks_of, clock};
 use crate::terminal::Progress;
 use crate::walked::Walked;
@@ -14,22 +16,25 @@ pub fn format(a: &Arguments) -> Result<Answer, Stop> {
     if let Err(report) = zolvortug::format(blocks, &mut image) {
         return Ok(Answer {
             refused: Some(report),
+            hint: Some("an image has a multiple of 8 blocks, from 8 to 4096. Give --blocks such a number."),
             ..Answer::default()
         });
     }
     let text = format!("{}: {blocks} blocks, {} bytes\n", a.file().display(), image.len());
-    let fields = vec![
-        ("blocks", i64::from(blocks).into()),
-        ("bytes", (image.len() as i64).into()),
-    ];
-    let mut answer = Answer::new(text, fields);
+    let fields = vec![("blocks", blocks.into()), ("bytes", image.len().into())];
+    let answer = Answer::new(text, fields);
     if is_stream(a.file()) {
         ready_for_an_image()?;
-        answer.image = Some(image);
-    } else {
-        image_file::create(a.file(), &image, a.has("force")).map_err(|fault| failed(a.file(), fault))?;
+        return Ok(Answer {
+            stream: Some(image),
+            ..answer
+        });
     }
-    Ok(answer)
+    image_file::create(a.file(), &image, a.has("force")).map_err(|fault| failed(a.file(), fault))?;
+    Ok(Answer {
+        changed: true,
+        ..answer
+    })
 }
 
 pub fn create(a: &Arguments) -> Result<Answer, Stop> {
@@ -45,7 +50,7 @@ pub fn replace(a: &Arguments) -> Result<Answer, Stop> {
 }
 
 fn new_id(id: Id) -> Answer {
-    let id = format!("{:016x}", id.0);
+    let id = shown_id(id);
     Answer::new(format!("{id}\n"), vec![("id", id.into())])
 }
 
@@ -84,7 +89,7 @@ pub fn scavenge(a: &Arguments) -> Result<Answer, Stop> {
     }
     drop(progress);
     let text = format!("removed {removed}\n");
-    Ok(on.with_image(walked.answer(text, vec![("removed", (removed as i64).into())])))
+    Ok(on.told(walked.answer(text, vec![("removed", removed.into())])))
 }
 
 /// The time of the call after one at this time.
@@ -108,6 +113,7 @@ struct Changing {
 
 impl Changing {
     fn open(a: &Arguments) -> Result<Changing, Stop> {
+        one_stream(a)?;
         let (tariff, client, cut) = (tariff(a)?, client(a)?, a.number("cut-after")?);
         let mut file = None;
         let image = if is_stream(a.file()) {
@@ -154,25 +160,28 @@ impl Changing {
         let (client, now) = (self.client, self.now);
         let called = call(&mut self.store(), client, now);
         self.commit()?;
-        let mut answer = Answer::of(called, say);
-        answer.fields.push(("now", time::shown(now).into()));
-        Ok(self.with_image(answer))
+        let answer = Answer::of(called, |value| {
+            let mut said = say(value);
+            said.fields.push(("now", time::shown(now).into()));
+            said
+        });
+        Ok(self.told(answer))
     }
 
     /// Where the image came from standard input, a changed one goes to standard output. After a refusal none does, so
     /// the calls before it have come to nothing.
-    fn with_image(self, answer: Answer) -> Answer {
-        match (self.file, answer.refused) {
-            (Some(_), _) => answer,
-            (None, None) => Answer {
-                image: Some(self.image),
-                ..answer
-            },
-            (None, Some(_)) => Answer {
-                text: Vec::new(),
-                fields: Vec::new(),
-                ..answer
-            },
+    fn told(self, answer: Answer) -> Answer {
+        let (text, fields, stream) = match (self.file, answer.refused) {
+            (Some(_), _) => (answer.text, answer.fields, None),
+            (None, None) => (answer.text, answer.fields, Some(self.image)),
+            (None, Some(_)) => (Vec::new(), Vec::new(), Some(Vec::new())),
+        };
+        Answer {
+            text,
+            fields,
+            stream,
+            changed: answer.refused.is_none(),
+            ..answer
         }
     }
 }

@@ -2,32 +2,47 @@
 //! whose key was the number of blocks listed, misses a block, and a good oscillator looks bad.
 use crate::arguments::Arguments;
 use crate::given::failed;
-use crate::image_file;
+use crate::image_file::{self, is_stream};
 use crate::recorder::{unforeseen, Recorder, BLOCKS, BLOCK_TIME, GAIN, NOISE};
-use crate::terminal::Paint;
+use crate::terminal::{padded, Paint};
 use crate::{Answer, Stop};
-use std::path::{Path, PathBuf};
+use std::io::ErrorKind;
+use std::path::Path;
 use zolvortug::{Client, Id, Key, Walk, MOST};
 
 const WALKER: Client = Client(2);
 const IDS_A_CALL: usize = 2;
 
 pub fn demo(a: &Arguments) -> Result<Answer, Stop> {
-    let kept = a.word(0).map(PathBuf::from);
-    let name = format!("zolvortug-demo-{}.img", std::process::id());
-    let path = kept.clone().unwrap_or(std::env::temp_dir().join(name));
-    let told = story(&path, a.has("force"), Paint::for_output());
-    let go_on = match kept {
-        Some(_) => format!(
-            "The image is kept: go on with it by `zolvortug ids {} --client 2`.\n",
-            path.display()
-        ),
+    let (force, paint) = (a.has("force"), Paint::for_output());
+    let told = match a.word(0).map(Path::new) {
+        Some(path) if is_stream(path) => return Err(Stop::Usage("the demonstration keeps its image in a file".into())),
+        Some(path) => {
+            let name = path.display();
+            story(path, force, paint)? + &format!("The image is kept: try `zolvortug ids {name} --client 2`.\n")
+        }
         None => {
-            let _ = std::fs::remove_file(&path);
-            "`zolvortug demo FILE` keeps the image; go on with it by `zolvortug ids FILE --client 2`.\n".to_string()
+            let go_on = "`zolvortug demo FILE` keeps the image; then try `zolvortug ids FILE --client 2`.\n";
+            in_a_folder(|path| story(path, force, paint))? + go_on
         }
     };
-    Ok(Answer::new(told? + &go_on, Vec::new()))
+    Ok(Answer::new(told, Vec::new()))
+}
+
+/// Does something with a file in a new folder, which then goes.
+fn in_a_folder<T>(what: impl FnOnce(&Path) -> Result<T, Stop>) -> Result<T, Stop> {
+    let mut turn = 0;
+    let folder = loop {
+        let folder = std::env::temp_dir().join(format!("zolvortug-demo-{}-{turn}", std::process::id()));
+        match std::fs::create_dir(&folder) {
+            Ok(()) => break folder,
+            Err(e) if e.kind() == ErrorKind::AlreadyExists => turn += 1,
+            Err(e) => return Err(failed(&folder, e.into())),
+        }
+    };
+    let done = what(&folder.join("store.img"));
+    let _ = std::fs::remove_dir_all(&folder);
+    done
 }
 
 fn story(path: &Path, force: bool, paint: Paint) -> Result<String, Stop> {
@@ -36,7 +51,7 @@ fn story(path: &Path, force: bool, paint: Paint) -> Result<String, Stop> {
     let all = recorder.standing(WALKER)?;
     let setting = setting(&recorder, paint);
     let (table, ours, old) = walks(&mut recorder, &all, paint)?;
-    let stored = row("stored now", &owners(&recorder, paint), "", paint);
+    let stored = row("stored now", &owners(&recorder, paint), "");
     drop(recorder);
     let image = image_file::read(path).map_err(|fault| failed(path, fault))?;
     let sound = if zolvortug::check(&image) {
@@ -65,8 +80,8 @@ fn setting(recorder: &Recorder, paint: Paint) -> String {
     );
     paint.bold(&title)
         + "\n\n"
-        + &row("stored by channel", &owners(recorder, paint), "", paint)
-        + &row("", letters.join(" ").trim_end(), "", paint)
+        + &row("stored by channel", &owners(recorder, paint), "")
+        + &row("", letters.join(" ").trim_end(), "")
         + &text
 }
 
@@ -86,8 +101,8 @@ fn consequence(ours: &Listing, old: &Listing, paint: Paint) -> String {
     let deviation = |listing: &Listing| format!("{:.1} ps", listing.deviation());
     paint.bold("The calculator joins the samples that it was given.")
         + &format!(" This oscillator gains {GAIN} ps each sample, with at most {NOISE} ps of noise.\n\n")
-        + &row("largest step", &step(ours), &paint.bad(&step(old)), paint)
-        + &row("Allan deviation", &deviation(ours), &paint.bad(&deviation(old)), paint)
+        + &row("largest step", &step(ours), &paint.bad(&step(old)))
+        + &row("Allan deviation", &deviation(ours), &paint.bad(&deviation(old)))
         + "\nThe oscillator never made that step: the old key turns a good one down.\n"
 }
 
@@ -128,13 +143,13 @@ impl Listing {
 fn walks(recorder: &mut Recorder, all: &[Id], paint: Paint) -> Result<(String, Listing, Listing), Stop> {
     let (mut ours, mut old) = (Listing::default(), Listing::default());
     let mut walk = recorder.store().walk(WALKER, IDS_A_CALL as u32);
-    let mut table = row("", &paint.bold("this store"), &paint.bold("the old store"), paint)
-        + &row("the key is", "a block number", "the number of blocks listed", paint)
+    let mut table = row("", &paint.bold("this store"), &paint.bold("the old store"))
+        + &row("the key is", "a block number", "the number of blocks listed")
         + "\n";
     for call in 1.. {
         let our_cell = our_call(recorder, &mut walk, &mut ours, all)?;
         let old_cell = old_call(recorder, &mut old, all)?;
-        table += &row(&format!("call {call}"), &our_cell, &old_cell, paint);
+        table += &row(&format!("call {call}"), &our_cell, &old_cell);
         if call == 1 {
             recorder.change(2 * BLOCK_TIME, |store, now| {
                 store.scavenge(Client::MANAGER, Key::START, now)
@@ -143,7 +158,6 @@ fn walks(recorder: &mut Recorder, all: &[Id], paint: Paint) -> Result<(String, L
                 "clean-up",
                 &paint.faint("removes A, and the first of the other channels"),
                 "",
-                paint,
             );
         }
         if ours.ended && old.ended {
@@ -154,7 +168,7 @@ fn walks(recorder: &mut Recorder, all: &[Id], paint: Paint) -> Result<(String, L
         "" => paint.good("nothing"),
         some => paint.bad(some),
     };
-    table += &row("missed", &missed(&ours), &missed(&old), paint);
+    table += &row("missed", &missed(&ours), &missed(&old));
     Ok((table, ours, old))
 }
 
@@ -215,11 +229,11 @@ fn letters(all: &[Id], ids: &[Id]) -> String {
         .join(" ")
 }
 
-fn row(name: &str, ours: &str, old: &str, paint: Paint) -> String {
+fn row(name: &str, ours: &str, old: &str) -> String {
     let left = if old.is_empty() {
         ours.to_string()
     } else {
-        paint.padded(ours, 30)
+        padded(ours, 30)
     };
     format!("  {name:<20}{left}{old}\n")
 }

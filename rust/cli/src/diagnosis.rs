@@ -1,8 +1,9 @@
 //! What is wrong with an image that the check says no to, in words. The verdict is the proved check's alone; this only
 //! looks for the reasons, and the tests hold the two against each other.
+use crate::image_file::too_long;
 use crate::layout::{clock, disk_block, header, word, Layout, MARK};
 use crate::time;
-use zolvortug::Tick;
+use zolvortug::{Client, Id, Tick};
 
 const CLIENTS: usize = 64;
 const ROUNDS: [u32; 4] = [2654435761, 2246822519, 3266489917, 668265263];
@@ -12,9 +13,12 @@ pub fn faults(image: &[u8]) -> Vec<String> {
     let Some(layout) = Layout::of(image.len()) else {
         return vec!["the length is no image's".into()];
     };
+    if let Some(what) = no_trailer(image, layout) {
+        return vec![what];
+    }
     let mut found = trailer(image, layout);
     for block in 0..layout.blocks {
-        let wrong = block_fault(image, layout, block);
+        let wrong = block_faults(image, layout, block).into_iter();
         found.extend(wrong.map(|what| format!("block {block}: {what}")));
     }
     let map = disk_block(image, layout.map());
@@ -23,6 +27,27 @@ pub fn faults(image: &[u8]) -> Vec<String> {
     }
     found.extend(counts(image, layout));
     found
+}
+
+/// The blocks that can still be read, with owner and id: all used ones whose headers are good, where the trailer is right.
+pub fn readable(image: &[u8]) -> Vec<(usize, Client, Id)> {
+    let Some(layout) = Layout::of(image.len()).filter(|layout| trailer(image, *layout).is_empty()) else {
+        return Vec::new();
+    };
+    let good = |block: &usize| header(image, *block)[0] == 1 && block_faults(image, layout, *block).is_empty();
+    let entry = |block| {
+        let h = header(image, block);
+        (block, Client(u32::from(h[1])), Id(word(h, 8, 8)))
+    };
+    (0..layout.blocks).filter(good).map(entry).collect()
+}
+
+/// What is said of an image whose last block has neither a trailer's mark nor its number.
+fn no_trailer(image: &[u8], layout: Layout) -> Option<String> {
+    let last = disk_block(image, layout.trailer());
+    let none = last[508..] != MARK && word(last, 0, 4) != layout.blocks as u64;
+    let what = || "the last 512 bytes are no trailer: cut to this length, or no image".to_string();
+    none.then(|| too_long(image).unwrap_or_else(what))
 }
 
 fn trailer(image: &[u8], layout: Layout) -> Vec<String> {
@@ -54,39 +79,50 @@ fn trailer(image: &[u8], layout: Layout) -> Vec<String> {
     found
 }
 
-fn block_fault(image: &[u8], layout: Layout, block: usize) -> Option<String> {
+fn block_faults(image: &[u8], layout: Layout, block: usize) -> Vec<String> {
     let h = header(image, block);
     let free = disk_block(image, layout.map())[block / 8] >> (block % 8) & 1 == 1;
+    let mut found = match h[0] {
+        0 if h.iter().any(|byte| *byte != 0) => vec!["unused, and yet its header is not all zero".into()],
+        0 => Vec::new(),
+        1 => used_faults(h, block, clock(image)),
+        used => vec![format!("its first byte is {used}, and neither 0 nor 1")],
+    };
     match (h[0], free) {
-        (0, _) if h.iter().any(|byte| *byte != 0) => Some("unused, and yet its header is not all zero".into()),
-        (0, true) => None,
-        (0, false) => Some("unused, and the map has it as used".into()),
-        (1, _) => used_fault(h, block, clock(image)).or(free.then(|| "used, and the map has it as free".into())),
-        (used, _) => Some(format!("its first byte is {used}, and neither 0 nor 1")),
+        (0, false) => found.push("unused, and the map has it as used".into()),
+        (1, true) => found.push("used, and the map has it as free".into()),
+        _ => {}
     }
+    found
 }
 
-fn used_fault(h: &[u8], block: usize, clock: u64) -> Option<String> {
+fn used_faults(h: &[u8], block: usize, clock: u64) -> Vec<String> {
     let (owner, id, created, expires) = (h[1], word(h, 8, 8), word(h, 16, 8), word(h, 24, 8));
     let shown = |t| time::shown(Tick(t));
+    let mut found = Vec::new();
     if h[2..8].iter().chain(&h[48..]).any(|byte| *byte != 0) {
-        return Some("a byte of its header that is to be zero is not".into());
+        found.push("a byte of its header that is to be zero is not".into());
     }
     if usize::from(owner) >= CLIENTS {
-        return Some(format!("its owner, {owner}, is no client"));
+        found.push(format!("its owner, {owner}, is no client"));
     }
     if created == 0 || created > clock {
-        return Some(format!(
+        found.push(format!(
             "created at {}, and the clock is {}",
             shown(created),
             shown(clock)
         ));
     }
     if expires == 0 || expires > time::LAST.0 {
-        return Some(format!("it expires at {}, which is no time", shown(expires)));
+        found.push(format!("it expires at {}, which is no time", shown(expires)));
     }
     let made = id_of(created, block);
-    (id != made).then(|| format!("its id is {id:016x}, and the one made from its number and time is {made:016x}"))
+    if id != made {
+        found.push(format!(
+            "its id is {id:016x}, and the one made from its number and time is {made:016x}"
+        ));
+    }
+    found
 }
 
 fn id_of(created: u64, block: usize) -> u64 {

@@ -23,6 +23,19 @@ impl From<i64> for Json {
     }
 }
 
+impl From<u32> for Json {
+    fn from(number: u32) -> Json {
+        Json::Number(number.into())
+    }
+}
+
+/// Numbers of blocks and bytes, which are small.
+impl From<usize> for Json {
+    fn from(number: usize) -> Json {
+        Json::Number(number as i64)
+    }
+}
+
 impl From<String> for Json {
     fn from(text: String) -> Json {
         Json::Text(text)
@@ -80,7 +93,7 @@ mod tests {
             ("flag", true.into()),
             ("least", i64::MIN.into()),
             ("text", String::from("a\"b\\c\nd é").into()),
-            ("list", Json::List(vec![1.into(), Json::List(vec![])])),
+            ("list", Json::List(vec![1u32.into(), Json::List(vec![])])),
         ]);
         let wanted = r#"{"flag":true,"least":-9223372036854775808,"text":"a\"b\\c\u000ad é","list":[1,[]]}"#;
         assert_eq!(record.to_string(), wanted);

@@ -69,3 +69,8 @@ pub fn clock(image: &[u8]) -> u64 {
 pub fn blocks_of(image: &[u8]) -> usize {
     Layout::of(image.len()).map_or(1, |layout| layout.blocks)
 }
+
+/// Whether bytes end as an image of so many blocks does.
+pub fn ends_image(bytes: &[u8], blocks: u32) -> bool {
+    bytes.ends_with(&MARK) && word(bytes, bytes.len() - DISK, 4) == u64::from(blocks)
+}

@@ -26,6 +26,8 @@ use zolvortug::Report;
 pub const NOT_SOUND: u8 = 1;
 pub const USAGE: u8 = 2;
 pub const FILE: u8 = 3;
+/// The command itself is at fault.
+pub const BROKEN: u8 = 4;
 pub const REFUSED: u8 = 100;
 
 /// Why a command has no answer: it was called wrongly, or a file failed it.
@@ -47,9 +49,12 @@ pub struct Answer {
     fields: Vec<Field>,
     charge: Option<i64>,
     refused: Option<Report>,
+    /// What to do about a refusal, where it is not what the report says to every verb.
+    hint: Option<&'static str>,
     not_sound: bool,
-    /// A changed image whose file is standard output; the rest is then told on standard error.
-    image: Option<Vec<u8>>,
+    changed: bool,
+    /// Standard output is the image's: the answer is told on standard error, after the image where there is a new one.
+    stream: Option<Vec<u8>>,
 }
 
 impl Answer {
@@ -76,12 +81,13 @@ impl Answer {
         }
     }
 
-    fn into_json(self) -> (Vec<u8>, Option<Vec<u8>>) {
+    /// The report, its name where it is a refusal, the fields, the charge.
+    fn as_json(&mut self) -> String {
         let mut fields = vec![("report", Json::Number(self.refused.map_or(0, Report::number).into()))];
         fields.extend(self.refused.map(|r| ("name", Json::Text(format!("{r:?}")))));
-        fields.extend(self.fields);
+        fields.append(&mut self.fields);
         fields.extend(self.charge.map(|c| ("charge", Json::Number(c))));
-        (format!("{}\n", Json::Record(fields)).into_bytes(), self.image)
+        format!("{}\n", Json::Record(fields))
     }
 
     fn status(&self) -> u8 {
@@ -97,7 +103,9 @@ impl Answer {
 pub fn run(given: Vec<OsString>) -> u8 {
     let told = match verbs::find(given) {
         Ok(asked) => asked.run().and_then(|answer| tell(answer, &asked.arguments)),
-        Err(verbs::Other::Help(text)) => put(io::stdout(), text.as_bytes()).map(|()| 0),
+        Err(verbs::Other::Help(text)) => {
+            put(io::stdout(), text.as_bytes()).map_or_else(|e| Err(unwritten(&e, false)), |()| Ok(0))
+        }
         Err(verbs::Other::Wrong(text)) => Err(Stop::Usage(text)),
     };
     let (status, what) = match told {
@@ -109,41 +117,43 @@ pub fn run(given: Vec<OsString>) -> u8 {
     status
 }
 
-fn tell(answer: Answer, arguments: &Arguments) -> Result<u8, Stop> {
-    let (status, refused, charge) = (answer.status(), answer.refused, answer.charge);
+fn tell(mut answer: Answer, arguments: &Arguments) -> Result<u8, Stop> {
     let json = arguments.has("json");
-    let (said, image) = if json {
-        answer.into_json()
+    let said = if json {
+        answer.as_json().into_bytes()
     } else {
-        (answer.text, answer.image)
+        std::mem::take(&mut answer.text)
     };
-    match image {
-        Some(image) => {
-            put(io::stdout(), &image)?;
-            put(io::stderr(), &said)?;
-        }
-        None => put(io::stdout(), &said)?,
+    let told = match &answer.stream {
+        None => put(io::stdout(), &said),
+        Some(image) => all_of(io::stdout(), image).and_then(|()| put(io::stderr(), &said)),
+    };
+    told.map_err(|e| unwritten(&e, answer.changed))?;
+    let mut aside = String::new();
+    if let (false, true, Some(charge)) = (json, arguments.has("tariff"), answer.charge) {
+        aside += &format!("charge {charge}\n");
     }
-    if let (false, true, Some(charge)) = (json, arguments.has("tariff"), charge) {
-        put(io::stderr(), format!("charge {charge}\n").as_bytes())?;
+    if let Some(report) = answer.refused {
+        aside += &format!("zolvortug: {}\n", advice::sentence(report, answer.hint));
     }
-    if let Some(report) = refused {
-        put(
-            io::stderr(),
-            format!("zolvortug: {}\n", advice::sentence(report)).as_bytes(),
-        )?;
-    }
-    Ok(status)
+    let _ = put(io::stderr(), aside.as_bytes());
+    Ok(answer.status())
 }
 
-/// Writes all bytes. A reader that has gone away wants no more of them.
-fn put(mut to: impl Write, bytes: &[u8]) -> Result<(), Stop> {
-    match to.write_all(bytes).and_then(|()| to.flush()) {
-        Err(e) if e.kind() != ErrorKind::BrokenPipe => Err(Stop::File(unwritten(&e))),
-        _ => Ok(()),
+/// Writes all of a text. A reader that has gone away wants no more of it.
+fn put(to: impl Write, text: &[u8]) -> io::Result<()> {
+    match all_of(to, text) {
+        Err(e) if e.kind() == ErrorKind::BrokenPipe => Ok(()),
+        done => done,
     }
 }
 
-fn unwritten(e: &io::Error) -> String {
-    format!("the answer could not be written: {}", image_file::said(e))
+fn all_of(mut to: impl Write, bytes: &[u8]) -> io::Result<()> {
+    to.write_all(bytes)?;
+    to.flush()
+}
+
+fn unwritten(e: &io::Error, changed: bool) -> Stop {
+    let made = if changed { "the change was made, and its" } else { "the" };
+    Stop::File(format!("{made} answer could not be written: {}", image_file::said(e)))
 }

@@ -2,5 +2,7 @@
 use std::process::ExitCode;
 
 fn main() -> ExitCode {
-    ExitCode::from(zolvortug_cli::run(std::env::args_os().skip(1).collect()))
+    let words = std::env::args_os().skip(1).collect();
+    let status = std::panic::catch_unwind(|| zolvortug_cli::run(words));
+    ExitCode::from(status.unwrap_or(zolvortug_cli::BROKEN))
 }

@@ -1,7 +1,7 @@
 //! The verbs that read an image: its file as it stood at one moment.
 use crate::arguments::Arguments;
-use crate::given::{client, failed, id_given, is_stream, store_read};
-use crate::image_file::{self, FileFault};
+use crate::given::{client, failed, id_given, shown_id, store_read};
+use crate::image_file::{self, are_one_file, is_stream, FileFault};
 use crate::json::{Field, Json};
 use crate::layout::{blocks_of, clock, disk_block, word, Layout, DISK};
 use crate::terminal::Progress;
@@ -14,11 +14,11 @@ pub fn check(a: &Arguments) -> Result<Answer, Stop> {
     let name = a.file().display().to_string();
     let image = match image_file::read(a.file()) {
         Ok(image) => image,
-        Err(FileFault::Length(what)) => return Ok(not_sound(&name, vec![what])),
+        Err(FileFault::Length(what)) => return Ok(not_sound(&name, vec![what], Vec::new())),
         Err(fault) => return Err(failed(a.file(), fault)),
     };
     let (true, Some(layout)) = (zolvortug::check(&image), Layout::of(image.len())) else {
-        return Ok(not_sound(&name, diagnosis::faults(&image)));
+        return Ok(not_sound(&name, diagnosis::faults(&image), diagnosis::readable(&image)));
     };
     let counts = disk_block(&image, layout.counts());
     let used: u64 = (0..DISK).step_by(8).map(|at| word(counts, at, 8)).sum();
@@ -26,8 +26,8 @@ pub fn check(a: &Arguments) -> Result<Answer, Stop> {
     let text = format!("{name}: sound; {used} of {} blocks used, clock {at}\n", layout.blocks);
     let fields = vec![
         ("sound", true.into()),
-        ("blocks", (layout.blocks as i64).into()),
-        ("used", (used as i64).into()),
+        ("blocks", layout.blocks.into()),
+        ("used", (used as usize).into()),
         ("clock", at.into()),
     ];
     Ok(Answer::new(text, fields))
@@ -36,7 +36,7 @@ pub fn check(a: &Arguments) -> Result<Answer, Stop> {
 /// So many faults are told to a person; JSON has them all.
 const TOLD: usize = 20;
 
-fn not_sound(name: &str, faults: Vec<String>) -> Answer {
+fn not_sound(name: &str, faults: Vec<String>, readable: Vec<(usize, Client, Id)>) -> Answer {
     let mut text = format!("{name}: not sound\n");
     for fault in faults.iter().take(TOLD) {
         text += &format!("  {fault}\n");
@@ -44,10 +44,27 @@ fn not_sound(name: &str, faults: Vec<String>) -> Answer {
     if faults.len() > TOLD {
         text += &format!("  and {} more; --json tells them all\n", faults.len() - TOLD);
     }
-    let faults = faults.into_iter().map(Json::Text).collect();
+    if !readable.is_empty() {
+        text += &format!(
+            "  blocks that can still be read: {}; --json has their ids\n",
+            readable.len()
+        );
+    }
+    let entry = |(block, owner, id): (usize, Client, Id)| {
+        Json::Record(vec![
+            ("block", block.into()),
+            ("owner", owner.0.into()),
+            ("id", shown_id(id).into()),
+        ])
+    };
+    let fields = vec![
+        ("sound", false.into()),
+        ("faults", Json::List(faults.into_iter().map(Json::Text).collect())),
+        ("readable", Json::List(readable.into_iter().map(entry).collect())),
+    ];
     Answer {
         not_sound: true,
-        ..Answer::new(text, vec![("sound", false.into()), ("faults", Json::List(faults))])
+        ..Answer::new(text, fields)
     }
 }
 
@@ -58,24 +75,26 @@ pub fn read(a: &Arguments) -> Result<Answer, Stop> {
     let (Ok(_), Some(out)) = (&called, a.path("out").filter(|out| !is_stream(out))) else {
         return Ok(Answer::of(called, |()| shown_block(&block)));
     };
+    if are_one_file(out, a.file()) {
+        return Err(Stop::Usage(
+            "the block would replace its own image; give --out another name".into(),
+        ));
+    }
     image_file::create(out, &block, a.has("force")).map_err(|fault| failed(out, fault))?;
     let text = format!("{}: {BLOCK} bytes\n", out.display());
     Ok(Answer::of(called, |()| {
-        Answer::new(text, vec![("bytes", (BLOCK as i64).into())])
+        Answer::new(text, vec![("bytes", BLOCK.into())])
     }))
 }
 
 fn shown_block(block: &[u8; BLOCK]) -> Answer {
     let hex = |bytes: &[u8]| bytes.iter().map(|b| format!("{b:02x}")).collect::<String>();
     let (tag, data) = block.split_at(BLOCK - DISK);
-    let lines = || {
-        block
-            .chunks(16)
-            .enumerate()
-            .map(|(i, row)| format!("{:3}  {}\n", 16 * i, hex(row)))
-    };
     let text = if io::stdout().is_terminal() {
-        lines().collect::<String>().into_bytes()
+        let rows = block.chunks(16).enumerate();
+        rows.map(|(i, row)| format!("{:3}  {}\n", 16 * i, hex(row)))
+            .collect::<String>()
+            .into_bytes()
     } else {
         block.to_vec()
     };
@@ -98,7 +117,7 @@ pub fn status(a: &Arguments) -> Result<Answer, Stop> {
 
 fn entry(owner: Client, created: Tick, expires: Tick) -> Vec<Field> {
     vec![
-        ("owner", i64::from(owner.0).into()),
+        ("owner", owner.0.into()),
         ("created", time::shown(created).into()),
         ("expires", time::shown(expires).into()),
     ]
@@ -107,7 +126,7 @@ fn entry(owner: Client, created: Tick, expires: Tick) -> Vec<Field> {
 pub fn count(a: &Arguments) -> Result<Answer, Stop> {
     let called = store_read(a)?.count(client(a)?);
     Ok(Answer::of(called, |n| {
-        Answer::new(format!("{n}\n"), vec![("count", i64::from(n).into())])
+        Answer::new(format!("{n}\n"), vec![("count", n.into())])
     }))
 }
 
@@ -120,7 +139,7 @@ pub fn ids(a: &Arguments) -> Result<Answer, Stop> {
         let Some(ids) = walked.take(walk.step(&store, &mut room)) else {
             break;
         };
-        named.extend(ids.iter().map(|id| format!("{:016x}", id.0)));
+        named.extend(ids.iter().map(|id| shown_id(*id)));
         progress.at(walk.key().block());
     }
     let text = named.iter().map(|id| format!("{id}\n")).collect();
@@ -149,5 +168,5 @@ pub fn profile(a: &Arguments) -> Result<Answer, Stop> {
         key = pass.next;
         progress.at(at.block());
     }
-    Ok(walked.answer(text, vec![("blocks", Json::List(rows))]))
+    Ok(walked.answer(text, vec![("entries", Json::List(rows))]))
 }

@@ -33,18 +33,6 @@ impl Paint {
         self.painted("31", text)
     }
 
-    /// A text filled up with spaces to a width; colours take none.
-    pub fn padded(self, text: &str, width: usize) -> String {
-        let mut seen = 0;
-        let mut within = false;
-        for c in text.chars() {
-            within |= c == '\x1b';
-            seen += usize::from(!within);
-            within &= c != 'm';
-        }
-        format!("{text}{}", " ".repeat(width.saturating_sub(seen)))
-    }
-
     fn painted(self, code: &str, text: &str) -> String {
         if self.on {
             format!("\x1b[{code}m{text}\x1b[0m")
@@ -52,6 +40,17 @@ impl Paint {
             text.to_string()
         }
     }
+}
+
+/// A text filled up with spaces to a width; colours take none.
+pub fn padded(text: &str, width: usize) -> String {
+    let (mut seen, mut within) = (0, false);
+    for c in text.chars() {
+        within |= c == '\x1b';
+        seen += usize::from(!within);
+        within &= c != 'm';
+    }
+    format!("{text}{}", " ".repeat(width.saturating_sub(seen)))
 }
 
 /// A line on standard error that says how far a walk has come: where standard error is a terminal, and the walk takes

@@ -81,7 +81,7 @@ pub fn expiry(text: &str, now: Tick) -> Result<Tick, String> {
 }
 
 fn span(text: &str) -> Result<u64, String> {
-    let wrong = || format!("+{text} is no span of time: write +30d, +12h, +5m, +10s or +250ms");
+    let wrong = || format!("'+{text}' is no span of time: write +30d, +12h, +5m, +10s or +250ms");
     let unit_at = text.find(|c: char| !c.is_ascii_digit()).ok_or_else(wrong)?;
     let (number, unit) = text.split_at(unit_at);
     let ticks = match unit {
@@ -97,7 +97,8 @@ fn span(text: &str) -> Result<u64, String> {
 }
 
 fn rfc3339(text: &str) -> Result<Tick, String> {
-    let wrong = || format!("{text} is no time: write 2026-11-16T02:12:53Z, or a number of ticks");
+    let wrong = || format!("'{text}' is no time: write 2026-11-16T02:12:53Z, or a number of ticks");
+    let early = || format!("'{text}' is before {FIRST_YEAR}, where ticks begin");
     let (date, rest) = text.split_at_checked(10).ok_or_else(wrong)?;
     let (clock, rest) = rest
         .strip_prefix(['T', 't', ' '])
@@ -110,59 +111,65 @@ fn rfc3339(text: &str) -> Result<Tick, String> {
         return Err(wrong());
     }
     if second > 59 {
-        return Err(format!("{text}: ticks count no leap seconds"));
+        return Err(format!("'{text}': ticks count no leap seconds"));
     }
-    if year < FIRST_YEAR {
-        return Err(format!("{text} is before {FIRST_YEAR}, where ticks begin"));
+    if year + 1 < FIRST_YEAR {
+        return Err(early());
     }
-    let days = (FIRST_YEAR..year).map(days_of_year).sum::<u64>()
+    let part = millis(fraction).ok_or_else(wrong)?;
+    let days = (FIRST_YEAR - 1..year).map(days_of_year).sum::<u64>()
         + (1..month).map(|m| days_of_month(year, m)).sum::<u64>()
         + (day - 1);
-    let part = millis(fraction).ok_or_else(wrong)?;
-    let tick = days * DAY + hour * HOUR + minute * MINUTE + second * SECOND + part;
-    let tick = tick.checked_add_signed(-offset(zone).ok_or_else(wrong)?);
-    tick.map(Tick)
-        .ok_or_else(|| format!("{text} is before {FIRST_YEAR}, where ticks begin"))
+    let ticks = days * DAY + hour * HOUR + minute * MINUTE + second * SECOND + part;
+    let before = (days_of_year(FIRST_YEAR - 1) * DAY) as i64 + offset(zone).ok_or_else(wrong)?;
+    ticks.checked_add_signed(-before).map(Tick).ok_or_else(early)
 }
 
 /// Three numbers of so many digits each.
-fn numbers(text: &str, between: char, digits: [usize; 3]) -> Option<[u64; 3]> {
+fn numbers(text: &str, between: char, lengths: [usize; 3]) -> Option<[u64; 3]> {
     let parts: Vec<&str> = text.split(between).collect();
     let mut read = [0; 3];
     if parts.len() != 3 {
         return None;
     }
-    for ((number, part), digits) in read.iter_mut().zip(parts).zip(digits) {
-        *number = whole(part, digits)?;
+    for ((number, part), length) in read.iter_mut().zip(parts).zip(lengths) {
+        *number = digits(part, length)?;
     }
     Some(read)
 }
 
-fn whole(text: &str, digits: usize) -> Option<u64> {
-    (text.len() == digits && text.bytes().all(|c| c.is_ascii_digit())).then(|| text.parse().ok())?
+/// The number that so many digits spell.
+fn digits(text: &str, length: usize) -> Option<u64> {
+    (text.len() == length && is_digits(text)).then(|| text.parse().ok())?
+}
+
+fn is_digits(text: &str) -> bool {
+    !text.is_empty() && text.bytes().all(|c| c.is_ascii_digit())
 }
 
 /// Milliseconds of '', '.5', '.123'; what is below a millisecond is cut off.
 fn millis(fraction: &str) -> Option<u64> {
-    let Some(digits) = fraction.strip_prefix('.') else {
-        return fraction.is_empty().then_some(0);
-    };
-    whole(digits, digits.len()).filter(|_| !digits.is_empty())?;
-    format!("{digits:0<3}")[..3].parse().ok()
+    match fraction.strip_prefix('.') {
+        None => fraction.is_empty().then_some(0),
+        Some(part) if is_digits(part) => format!("{part:0<3}")[..3].parse().ok(),
+        Some(_) => None,
+    }
 }
 
 /// Ticks by which a zone is ahead of UTC: Z, +01:00, -05:30.
 fn offset(zone: &str) -> Option<i64> {
-    if zone == "Z" || zone == "z" {
-        return Some(0);
-    }
-    let (hours, minutes) = zone[1..].split_once(':')?;
+    let (sign, rest) = match zone.split_at(1) {
+        ("Z" | "z", "") => return Some(0),
+        ("+", rest) => (1, rest),
+        ("-", rest) => (-1, rest),
+        _ => return None,
+    };
+    let (hours, minutes) = rest.split_once(':')?;
     let (hours, minutes) = (
-        whole(hours, 2).filter(|h| *h < 24)?,
-        whole(minutes, 2).filter(|m| *m < 60)?,
+        digits(hours, 2).filter(|h| *h < 24)?,
+        digits(minutes, 2).filter(|m| *m < 60)?,
     );
-    let ahead = (hours * HOUR + minutes * MINUTE) as i64;
-    Some(if zone.starts_with('-') { -ahead } else { ahead })
+    Some(sign * (hours * HOUR + minutes * MINUTE) as i64)
 }
 
 #[cfg(test)]
@@ -208,6 +215,10 @@ mod tests {
             ("2020-01-01T00:00:00", u64::MAX),
             ("2020-01-01T00:00:00.Z", u64::MAX),
             ("2020-01-01T00:00:00+24:00", u64::MAX),
+            ("2020-01-01T00:00:00Z01:00", u64::MAX),
+            ("2019-12-31T23:30:00-01:00", 30 * MINUTE),
+            ("2018-12-31T23:30:00-01:00", u64::MAX),
+            ("2020-01-01T00:00:00.0012345678901234567890123Z", 1),
             ("2020-01-01T00:00:00é", u64::MAX),
             ("2020-01-01", u64::MAX),
             ("tomorrow", u64::MAX),

@@ -46,26 +46,24 @@ pub enum Other {
 
 /// Finds the verb that the words begin with, and reads the rest for it.
 pub fn find(given: Vec<OsString>) -> Result<Asked, Other> {
-    let mut words = given.iter().map(|w| w.to_string_lossy());
-    let (first, second) = (words.next().unwrap_or_default(), words.next());
-    let wants_help = given
-        .iter()
-        .take_while(|w| *w != "--")
-        .any(|w| w == "--help" || w == "-h");
-    let named = match (&first[..], second) {
-        ("help" | "--help" | "-h", None) => return Err(Other::Help(help::of_command())),
-        ("--version", None) => return Err(Other::Help(format!("zolvortug {}\n", env!("CARGO_PKG_VERSION")))),
-        ("help", Some(name)) => name.into_owned(),
-        (name, _) => name.to_string(),
+    let asks = |word: &OsString| word == "help" || word == "--help" || word == "-h";
+    let for_help = given.first().is_some_and(asks);
+    let mut words = given.into_iter().skip(usize::from(for_help));
+    let name = words.next().unwrap_or_default();
+    let rest: Vec<OsString> = words.collect();
+    if for_help && (name.is_empty() || asks(&name)) {
+        return Err(Other::Help(help::of_command()));
+    }
+    if name == "--version" {
+        return Err(Other::Help(format!("zolvortug {}\n", env!("CARGO_PKG_VERSION"))));
+    }
+    let Some(verb) = VERBS.iter().find(|v| name == v.name) else {
+        return Err(Other::Wrong(unknown(&name.to_string_lossy())));
     };
-    let Some(verb) = VERBS.iter().find(|v| v.name == named) else {
-        return Err(Other::Wrong(unknown(&named)));
-    };
-    if wants_help || first == "help" {
+    if for_help || rest.iter().take_while(|w| *w != "--").any(|w| w != "help" && asks(w)) {
         return Err(Other::Help(help::of_verb(verb)));
     }
-    let arguments = Arguments::read(verb, given.into_iter().skip(1).collect());
-    let arguments = arguments.map_err(|what| Other::Wrong(wrong(verb, &what)))?;
+    let arguments = Arguments::read(verb, rest).map_err(|what| Other::Wrong(wrong(verb, &what)))?;
     Ok(Asked { verb, arguments })
 }
 

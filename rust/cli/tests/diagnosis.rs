@@ -1,6 +1,6 @@
 //! The reasons that the command gives are held against the proved check: none where it says yes, some where it says no.
-use zolvortug::{Client, Store, Tariff, Tick};
-use zolvortug_cli::diagnosis::faults;
+use zolvortug::{Client, Id, Store, Tariff, Tick};
+use zolvortug_cli::diagnosis::{faults, readable};
 
 /// An image of so many blocks with a few stored: by clients 0, 5, 10 and so on.
 fn image(blocks: u32, stored: u32) -> Vec<u8> {
@@ -16,13 +16,24 @@ fn image(blocks: u32, stored: u32) -> Vec<u8> {
     image
 }
 
+/// Those of the blocks of the sound image that the store still finds by their ids.
+fn stands(image: &[u8], all: &[(usize, Client, Id)]) -> Vec<(usize, Client, Id)> {
+    let store = Store::new(image, Tariff::default());
+    let told = |(block, _, id): &(usize, Client, Id)| {
+        let info = store.status(Client(0), *id).ok()?;
+        Some((*block, info.value.owner, *id))
+    };
+    all.iter().filter_map(told).collect()
+}
+
 /// Every byte of an image that is not data, with every bit changed: the two agree.
 #[test]
 fn agrees_with_the_check() {
     for (blocks, stored) in [(8, 3), (8, 8), (64, 13)] {
         let mut image = image(blocks, stored);
         assert_eq!(faults(&image), [""; 0]);
-        let n = blocks as usize;
+        let (n, ids) = (blocks as usize, readable(&image));
+        assert_eq!(ids.len(), stored as usize);
         let (data, trailer) = (64 * n + 1024, image.len() - 512);
         let mut no = 0;
         for at in (0..data).chain(trailer..image.len()) {
@@ -35,6 +46,7 @@ fn agrees_with_the_check() {
                     "byte {at}, bit {bit}: {:?}",
                     faults(&image)
                 );
+                assert_eq!(readable(&image), stands(&image, &ids), "byte {at}, bit {bit}");
                 no += usize::from(!sound);
                 image[at] ^= 1 << bit;
             }
@@ -99,5 +111,15 @@ fn says_what_is_wrong() {
         let said = faults(&harmed);
         assert!(said.iter().any(|s| s.starts_with(what)), "{what}: {said:?}");
     }
+    let mut harmed = right.clone();
+    harmed[64..128].fill(0xff);
+    harmed[64] = 1;
+    assert_eq!(
+        faults(&harmed)
+            .iter()
+            .filter(|fault| fault.starts_with("block 1: "))
+            .count(),
+        5
+    );
     assert_eq!(faults(&right[1..]), ["the length is no image's"]);
 }

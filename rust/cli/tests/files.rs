@@ -5,8 +5,8 @@ use std::fs::{self, File};
 use std::os::unix::fs::PermissionsExt;
 use std::thread::sleep;
 use std::time::Duration;
-use zolvortug::{Client, Id, Store, Tariff};
-use zolvortug_cli::image_file::{writes, Write};
+use zolvortug::{Client, Id, Key, Store, Tariff, Tick};
+use zolvortug_cli::image_file::{writes, BlockWrite};
 use zolvortug_cli::layout::Layout;
 
 const BLOCK: [u8; 528] = [7; 528];
@@ -33,15 +33,15 @@ fn a_file_that_is_no_image() {
     for (bytes, what) in [
         (
             &image[..0],
-            "too short: it has 0 bytes, and the smallest image 6144 (8 blocks)",
+            "too short: it has 0 bytes, and the smallest image 6144 bytes (8 blocks)",
         ),
         (
             &image[..6143],
-            "too short: it has 6143 bytes, and the smallest image 6144 (8 blocks)",
+            "too short: it has 6143 bytes, and the smallest image 6144 bytes (8 blocks)",
         ),
         (
             &image[..9000],
-            "cut, or no image: it has 9000 bytes; the nearest lengths are 6144 (8 blocks) and 10752 (16 blocks)",
+            "cut, or no image: it has 9000 bytes, and the nearest images 6144 bytes (8 blocks) and 10752 bytes (16 blocks)",
         ),
         (
             &longer,
@@ -49,7 +49,7 @@ fn a_file_that_is_no_image() {
         ),
         (
             &[1; 2_360_833],
-            "too long: the largest image has 2360832 (4096 blocks) bytes",
+            "too long: the largest image has 2360832 bytes (4096 blocks)",
         ),
     ] {
         fs::write(f.path("i"), bytes).unwrap();
@@ -112,10 +112,16 @@ fn format_replaces_only_by_force() {
     assert!(f.bytes("i") == before);
     f.run("format i --blocks 8 --force").ends(0);
     assert_eq!(f.bytes("i").len(), 6144);
+    fs::set_permissions(f.path("i"), fs::Permissions::from_mode(0o600)).unwrap();
     std::os::unix::fs::symlink("i", f.path("link")).unwrap();
     f.run("format link --blocks 24 --force").ends(0);
     assert_eq!(f.bytes("i").len(), zolvortug::size_of_image(24).unwrap());
-    assert_eq!(f.names(), ["i", "link"]);
+    assert_eq!(fs::metadata(f.path("i")).unwrap().permissions().mode() & 0o777, 0o600);
+    std::os::unix::fs::symlink("nowhere", f.path("dangling")).unwrap();
+    f.run("format dangling --blocks 8")
+        .ends(3)
+        .warns("dangling: not a regular file");
+    assert_eq!(f.names(), ["dangling", "i", "link"]);
 }
 
 /// A file may not grow beyond a limit: the system refuses the write as it does on a full disk.
@@ -164,17 +170,18 @@ fn a_full_disk() {
 #[test]
 fn two_commands_at_once() {
     let f = Folder::new();
+    fs::write(f.path("block"), BLOCK).unwrap();
     f.run("format i --blocks 64").ends(0);
-    let started: Vec<_> = (0..24).map(|_| f.start(CREATE)).collect();
-    let mut ids = Vec::new();
-    for mut child in started {
-        std::io::Write::write_all(&mut child.stdin.take().unwrap(), &BLOCK).unwrap();
-        ids.push(Said::of(CREATE, child.wait_with_output().unwrap()).ends(0).line());
-    }
+    let create = format!("{CREATE} --data block");
+    let started: Vec<_> = (0..48).map(|_| f.start(&create)).collect();
+    let ended = started
+        .into_iter()
+        .map(|child| Said::of(&create, child.wait_with_output().unwrap()));
+    let mut ids: Vec<String> = ended.map(|said| said.ends(0).line()).collect();
     ids.sort();
     ids.dedup();
-    assert_eq!(ids.len(), 24);
-    f.run("count i --client 3").ends(0).says("24\n");
+    assert_eq!(ids.len(), 48);
+    f.run("count i --client 3").ends(0).says("48\n");
     let mut listed: Vec<String> = f
         .run("ids i --client 3")
         .ends(0)
@@ -201,19 +208,20 @@ fn two_formats_at_once() {
     f.run("check i").ends(0);
 }
 
-/// Waits until the command has opened the file and stands before its lock.
+/// Waits until the command stands before a lock.
 fn until_it_waits(child: &std::process::Child) {
-    let waits = |status: String| status.contains("flock") || status.contains("locks_lock");
-    for _ in 0..200 {
-        sleep(Duration::from_millis(5));
-        let stack = fs::read_to_string(format!("/proc/{}/wchan", child.id())).unwrap_or_default();
-        if waits(stack) {
+    let place = format!("/proc/{}/wchan", child.id());
+    for _ in 0..2000 {
+        let at = fs::read_to_string(&place).unwrap_or_default();
+        if at.contains("lock") {
             return;
         }
+        sleep(Duration::from_millis(5));
     }
+    panic!("the command does not wait");
 }
 
-/// A command waits for the one that has the file. If another file has come in its place by then, that one is changed.
+/// A command waits for the one that has the file. If another file has come in its place by then, it takes that one.
 #[test]
 fn a_command_waits_for_the_file() {
     let f = Folder::new();
@@ -221,23 +229,44 @@ fn a_command_waits_for_the_file() {
     let before = f.bytes("i");
     let held = File::open(f.path("i")).unwrap();
     held.lock().unwrap();
-    let mut waiting = f.start("destroy i 0000000000000000 --client 3");
-    let mut creating = f.start("scavenge i --now 501");
-    until_it_waits(&waiting);
-    until_it_waits(&creating);
-    assert!(waiting.try_wait().unwrap().is_none() && creating.try_wait().unwrap().is_none());
-    fs::write(f.path("other"), &before).unwrap();
+    let mut waiting = [
+        "scavenge i --now 501",
+        "count i --client 3",
+        "format i --blocks 8 --force",
+    ]
+    .map(|words| f.start(words));
+    waiting.iter().for_each(until_it_waits);
+    assert!(waiting.iter_mut().all(|child| child.try_wait().unwrap().is_none()));
+    let [scavenge, count, format] = waiting;
+    let mut other = before.clone();
+    Store::new(&mut other[..], Tariff::default())
+        .create(Client(3), Tick(200), &BLOCK, Tick(200))
+        .unwrap();
+    fs::write(f.path("other"), &other).unwrap();
+    let next = File::open(f.path("other")).unwrap();
+    next.lock().unwrap();
     fs::rename(f.path("other"), f.path("i")).unwrap();
     held.unlock().unwrap();
-    Said::of("scavenge", creating.wait_with_output().unwrap())
-        .ends(0)
-        .says("removed 2\n");
-    Said::of("destroy", waiting.wait_with_output().unwrap()).ends(110);
-    f.run("count i --client 3").ends(0).says("1\n");
+    [&scavenge, &count, &format].into_iter().for_each(until_it_waits);
+    assert!(f.bytes("i") == other);
+    next.unlock().unwrap();
+    let ended = |child: std::process::Child| Said::of("", child.wait_with_output().unwrap());
+    let (scavenge, count, format) = (ended(scavenge), ended(count), ended(format).ends(0));
+    assert!(
+        ["removed 3\n", "removed 0\n"].contains(&&scavenge.out[..]) && scavenge.status == Some(0),
+        "{scavenge:?}"
+    );
+    assert!(
+        ["4\n", "1\n", "0\n"].contains(&&count.out[..]) && count.status == Some(0),
+        "{count:?}"
+    );
+    assert_eq!([scavenge.err, count.err, format.err], ["", "", ""]);
+    assert_eq!(f.names(), ["i"]);
+    assert_eq!(f.bytes("i").len(), 6144);
 }
 
 /// A disk block's turn: trailer, data, then headers from the lowest, map and counts, as they stand in the image.
-fn turn(layout: Layout, write: &Write) -> usize {
+fn turn(layout: Layout, write: &BlockWrite) -> usize {
     match write.block {
         block if block == layout.trailer() => 0,
         block if block >= layout.data(0) => 1,
@@ -285,6 +314,84 @@ fn a_command_killed_between_two_writes() {
         }
         assert!(disk == after, "{words}");
     }
+}
+
+/// Each call of a scavenge is on the disk before the next begins.
+#[test]
+fn a_scavenge_killed_in_its_second_call() {
+    let f = Folder::new();
+    f.run("format i --blocks 128").ends(0);
+    let mut image = f.bytes("i");
+    let mut store = Store::new(&mut image[..], Tariff::default());
+    for now in 1..=100 {
+        store.create(Client(3), Tick(150), &BLOCK, Tick(now)).unwrap();
+    }
+    let before = store.image().to_vec();
+    let first = store.scavenge(Client(0), Key::START, Tick(200)).unwrap().value;
+    let between = store.image().to_vec();
+    store.scavenge(Client(0), first.next.unwrap(), Tick(201)).unwrap();
+    let steps = [writes(&before, &between), writes(&between, store.image())].concat();
+    let blocks: Vec<usize> = steps.iter().map(|write| write.block).collect();
+    let layout = Layout::of(before.len()).unwrap();
+    let (trailer, map, counts) = (layout.trailer(), layout.map(), layout.counts());
+    let wanted = [
+        vec![trailer],
+        (0..8).collect(),
+        vec![map, counts, trailer],
+        (8..13).collect(),
+        vec![map, counts],
+    ];
+    assert_eq!(blocks, wanted.concat());
+    let mut disk = before.clone();
+    for (cut, step) in steps.iter().enumerate() {
+        fs::write(f.path("i"), &before).unwrap();
+        f.run(&format!("scavenge i --now 200 --cut-after {cut}"));
+        assert!(f.bytes("i") == disk, "cut after {cut}");
+        disk[512 * step.block..512 * (step.block + 1)].copy_from_slice(&step.bytes);
+    }
+}
+
+/// Of two images that differ everywhere, all blocks are written, in the order.
+#[test]
+fn the_order_of_all_blocks() {
+    let from = vec![0; zolvortug::size_of_image(64).unwrap()];
+    let to = vec![0xff; from.len()];
+    let blocks: Vec<usize> = writes(&from, &to).iter().map(|write| write.block).collect();
+    let wanted = [vec![74], (10..74).collect(), (0..10).collect()];
+    assert_eq!(blocks, wanted.concat());
+}
+
+/// What the system is asked for, in order: each write is on the disk before the next; a new file before it is named.
+#[test]
+fn each_write_is_synced() {
+    let f = Folder::new();
+    stored(&f);
+    fs::write(f.path("block"), BLOCK).unwrap();
+    let traced = |words: &str| {
+        let calls = "pwrite64,write,fdatasync,fsync,linkat,rename";
+        let traced = f.shell(&format!(
+            "strace -o trace -e trace={calls} zolvortug {words} > /dev/null && cat trace"
+        ));
+        let names = traced
+            .out
+            .lines()
+            .filter_map(|line| line.split_once('(').map(|(name, _)| name.to_string()));
+        names.filter(|name| !name.contains(' ')).collect::<Vec<String>>()
+    };
+    let calls = traced(&format!("{CREATE} --data block"));
+    if calls.is_empty() {
+        eprintln!("strace is not here: what the system is asked for was not looked at");
+        return;
+    }
+    assert_eq!(calls[..10], ["pwrite64", "fdatasync"].repeat(5));
+    assert_eq!(
+        traced("format j --blocks 8")[..4],
+        ["write", "fsync", "linkat", "fsync"]
+    );
+    assert_eq!(
+        traced("format j --blocks 8 --force")[..4],
+        ["write", "fsync", "rename", "fsync"]
+    );
 }
 
 /// Replace writes the trailer, the header as unused, the data, then the new header.

@@ -1,6 +1,8 @@
 //! The command, verb by verb: what it prints, and its exit status.
 mod common;
 use common::Folder;
+use std::time::{SystemTime, UNIX_EPOCH};
+use zolvortug_cli::time::moment;
 
 const PRICES: &str = include_str!("../../../examples/prices");
 const BLOCK: [u8; 528] = [7; 528];
@@ -61,13 +63,13 @@ fn answers_as_json() {
     f.run("count i --client 3 --json")
         .ends(0)
         .says("{\"report\":0,\"count\":1,\"charge\":0}\n");
-    let profile = format!("{{\"report\":0,\"blocks\":[{{{info}}}],\"calls\":1,\"charge\":0}}\n");
+    let profile = format!("{{\"report\":0,\"entries\":[{{{info}}}],\"calls\":1,\"charge\":0}}\n");
     f.run("profile i --json").ends(0).says(&profile);
     let sound = "{\"report\":0,\"sound\":true,\"blocks\":8,\"used\":1,\"clock\":\"2020-01-01T00:00:00.100Z\"}\n";
     f.run("check i --json").ends(0).says(sound);
     let scavenged = "{\"report\":0,\"removed\":1,\"calls\":1,\"charge\":0}\n";
     f.run("scavenge i --now 501 --json").ends(0).says(scavenged);
-    let refused = "{\"report\":10,\"name\":\"NoSuchBlock\",\"now\":\"2020-01-01T00:00:00.502Z\",\"charge\":0}\n";
+    let refused = "{\"report\":10,\"name\":\"NoSuchBlock\",\"charge\":0}\n";
     f.run(&format!("destroy i {FIRST} --client 3 --now 502 --json"))
         .ends(110)
         .says(refused);
@@ -88,34 +90,78 @@ fn refusals() {
     image[0] = 9;
     std::fs::write(f.path("harmed"), &image).unwrap();
     let rows = [
-        (1, "BadImage", "count blank --client 3".to_string()),
-        (1, "BadImage", "format j --blocks 12".to_string()),
-        (2, "BadUser", "count i --client 64".to_string()),
-        (3, "BadTime", format!("destroy i {id} --client 3 --now 0")),
+        (
+            1,
+            "BadImage: the trailer is not that of",
+            "count blank --client 3".to_string(),
+        ),
+        (
+            1,
+            "BadImage: an image has a multiple of 8 blocks",
+            "format j --blocks 12".to_string(),
+        ),
+        (2, "BadUser: there is no such client", "count i --client 64".to_string()),
+        (
+            2,
+            "BadUser: there is no such client",
+            format!("read i {id} --client 64"),
+        ),
+        (
+            2,
+            "BadUser: there is no such client",
+            format!("status i {id} --client 64"),
+        ),
         (
             3,
-            "BadTime",
+            "BadTime: a time is out of range",
+            format!("destroy i {id} --client 3 --now 0"),
+        ),
+        (
+            3,
+            "BadTime: a time is out of range",
             format!("expire i {id} --client 3 --now 101 --expires 1099511627776"),
         ),
-        (4, "ClockNotLater", format!("destroy i {id} --client 3 --now 100")),
-        (5, "NotManager", "profile i --client 1".to_string()),
-        (7, "BadCount", "ids i --client 3 --count 65".to_string()),
+        (
+            4,
+            "ClockNotLater: now is not after",
+            format!("destroy i {id} --client 3 --now 100"),
+        ),
+        (
+            5,
+            "NotManager: this is the manager's to do",
+            "profile i --client 1".to_string(),
+        ),
+        (
+            7,
+            "BadCount: a call names 1 to 64 ids",
+            "ids i --client 3 --count 65".to_string(),
+        ),
         (
             8,
-            "BadRoom",
+            "BadRoom: a block is 528 bytes",
             "create i --client 3 --expires never --data prices".to_string(),
         ),
-        (9, "Damaged", "ids harmed --client 3".to_string()),
-        (10, "NoSuchBlock", "read i 0000000000000000".to_string()),
-        (11, "NotOwner", format!("destroy i {id} --client 4")),
+        (9, "Damaged: a header or a count", "ids harmed --client 3".to_string()),
+        (
+            10,
+            "NoSuchBlock: no stored block has this id",
+            "read i 0000000000000000".to_string(),
+        ),
+        (
+            11,
+            "NotOwner: the block is another client's",
+            format!("destroy i {id} --client 4"),
+        ),
     ];
     std::fs::write(f.path("prices"), PRICES).unwrap();
     let before = f.bytes("i");
-    for (report, name, words) in rows {
-        f.run(&words)
-            .ends(100 + report)
-            .says("")
-            .warns(&format!("zolvortug: refused: {report} {name}: "));
+    for (report, sentence, words) in rows {
+        let said = f.run(&words).ends(100 + report).says("");
+        assert!(
+            said.err
+                .starts_with(&format!("zolvortug: refused: {report} {sentence}")),
+            "{said:?}"
+        );
     }
     assert!(f.bytes("i") == before);
     for _ in 0..7 {
@@ -123,7 +169,7 @@ fn refusals() {
     }
     f.fed("create i --client 3 --expires never", &BLOCK)
         .ends(112)
-        .warns("zolvortug: refused: 12 NoSpace: ");
+        .warns("zolvortug: refused: 12 NoSpace: every block is in use");
 }
 
 #[test]
@@ -135,6 +181,13 @@ fn wrongly_called() {
         ("list i", "there is no verb 'list'"),
         ("check", "FILE is missing"),
         ("check i i", "'i' is one word too many"),
+        ("check -i", "there is no -i here"),
+        ("demo -", "keeps its image in a file"),
+        (
+            "destroy i 0000000000000000 --client 3 --tariff - --data -",
+            "there is no --data here",
+        ),
+        ("count - --client 3 --tariff -", "only one of them"),
         ("format j", "--blocks N is missing"),
         ("format j --blocks", "--blocks asks for a value, N"),
         ("format j --blocks eight", "'eight' is no number"),
@@ -142,13 +195,10 @@ fn wrongly_called() {
         ("format j --blocks 8 --force=yes", "--force takes no value"),
         ("check i --now 5", "there is no --now here"),
         ("create i --client 3", "--expires TIME is missing"),
-        ("create i --client 3 --expires tomorrow", "tomorrow is no time"),
-        ("create i --client 3 --expires +5", "+5 is no span of time"),
+        ("create i --client 3 --expires tomorrow", "'tomorrow' is no time"),
+        ("create i --client 3 --expires +5", "'+5' is no span of time"),
         ("create i --client 3 --expires never --tag 07", "is not 32 hex digits"),
-        (
-            "create - --client 3 --expires never",
-            "cannot both come from standard input",
-        ),
+        ("create - --client 3 --expires never", "only one of them"),
         ("destroy i 12 --client 3", "'12' is no id"),
         ("destroy i 0x00000000000000 --client 3", "is no id"),
         (
@@ -212,7 +262,33 @@ fn standard_input_and_output() {
         .warns("removed 2");
     f.shell("zolvortug check - < /dev/null")
         .ends(1)
-        .says("-: not sound\n  too short: it has 0 bytes, and the smallest image 6144 (8 blocks)\n");
+        .says("-: not sound\n  too short: it has 0 bytes, and the smallest image 6144 bytes (8 blocks)\n");
+}
+
+/// After a refusal nothing goes where the image would go; and an image that is not taken is a failure.
+#[test]
+fn a_refused_or_broken_pipe() {
+    let f = Folder::new();
+    std::fs::write(f.path("block"), BLOCK).unwrap();
+    f.run("format i --blocks 4096").ends(0);
+    let refused = "{\"report\":10,\"name\":\"NoSuchBlock\",\"charge\":0}\n";
+    f.shell("zolvortug destroy - 0000000000000000 --client 4 --json < i")
+        .ends(110)
+        .says("")
+        .warns(refused);
+    let mut image = f.bytes("i");
+    image[64 * 70] = 9;
+    std::fs::write(f.path("j"), &image).unwrap();
+    let refused = "{\"report\":9,\"name\":\"Damaged\",\"charge\":0}\n";
+    f.shell("zolvortug scavenge - --json < j")
+        .ends(109)
+        .says("")
+        .warns(refused);
+    f.shell(
+        "set -o pipefail; zolvortug create - --client 3 --expires never --data block < i | head -c 100 > /dev/null",
+    )
+    .ends(3)
+    .warns("the change was made, and its answer could not be written: Broken pipe");
 }
 
 #[test]
@@ -222,6 +298,7 @@ fn data_and_tags() {
     let create = |options: &str, data: &[u8]| f.fed(&format!("create i --client 3 --expires never {options}"), data);
     create("", &BLOCK[..527]).ends(108);
     create("", &[7; 529]).ends(108);
+    create("--pad", &[7; 529]).ends(108);
     create("--tag 000102030405060708090a0b0c0d0e0f", &BLOCK).ends(108);
     let id = create("--tag 000102030405060708090a0b0c0d0e0f", &BLOCK[..512])
         .ends(0)
@@ -237,6 +314,9 @@ fn data_and_tags() {
         .ends(3)
         .warns("block: there already");
     f.run(&format!("read i {id} --out=block --force")).ends(0);
+    f.run(&format!("read i {id} --out=i --force"))
+        .ends(2)
+        .warns("its own image");
     let id = create("--pad", b"abc").ends(0).line();
     let read = f.run(&format!("read i {id} -o -")).ends(0);
     assert_eq!((&read.raw[..4], read.raw.len()), (&b"abc\0"[..], 528));
@@ -247,18 +327,78 @@ fn data_and_tags() {
 fn the_time_of_a_call() {
     let f = Folder::new();
     f.run("format i --blocks 8").ends(0);
-    let year = f.shell("date -u +%Y-%m").line();
-    let said = f.fed("create i --client 3 --expires +1d --json", &BLOCK).ends(0).out;
-    assert!(said.contains(&format!("\"now\":\"{year}")), "{said}");
+    let now_of = |said: String| {
+        let (_, rest) = said.split_once("\"now\":\"").unwrap();
+        moment(rest.split('"').next().unwrap()).unwrap().0
+    };
+    let unix = || SystemTime::now().duration_since(UNIX_EPOCH).unwrap().as_millis() as u64 - 1_577_836_800_000;
+    let before = unix();
+    let now = now_of(f.fed("create i --client 3 --expires +1d --json", &BLOCK).ends(0).out);
+    assert!((before..=unix()).contains(&now), "{before} {now}");
     f.fed("create i --client 3 --expires never --now 2050-01-01T00:00:00Z", &BLOCK)
         .ends(0);
     let said = f.fed("create i --client 3 --expires never --json", &BLOCK).ends(0).out;
-    assert!(said.contains("\"now\":\"2050-01-01T00:00:00.001Z\""), "{said}");
+    assert_eq!(now_of(said), moment("2050-01-01T00:00:00.001Z").unwrap().0);
     f.fed("create i --client 3 --expires never --now 1099511627775", &BLOCK)
         .ends(0);
     f.fed("create i --client 3 --expires never", &BLOCK)
         .ends(103)
         .warns("refused: 3 BadTime");
+}
+
+/// A span counts from now; blocks are told in their order.
+#[test]
+fn spans_and_profiles() {
+    let f = Folder::new();
+    f.run("format i --blocks 8").ends(0);
+    let id = f
+        .fed("create i --client 63 --now 100 --expires +10s", &BLOCK)
+        .ends(0)
+        .line();
+    f.fed("create i --client 3 --now 200 --expires +250ms", &BLOCK).ends(0);
+    let row = "created 2020-01-01T00:00:00.200Z  expires 2020-01-01T00:00:00.450Z\n";
+    let first = "owner 63  created 2020-01-01T00:00:00.100Z  expires 2020-01-01T00:00:10.100Z\n";
+    f.run("profile i")
+        .ends(0)
+        .says(&format!("{first}owner 3   {row}"))
+        .warns("");
+    f.run(&format!("expire i {id} --client 63 --now 300 --expires +1m"))
+        .ends(0)
+        .says("");
+    let moved = "owner 63  created 2020-01-01T00:00:00.100Z  expires 2020-01-01T00:01:00.300Z\n";
+    let said = f.run("profile i").ends(0).says(&format!("{moved}owner 3   {row}"));
+    assert_eq!(said.err, "", "without a tariff no charge is told");
+    f.run("check i")
+        .ends(0)
+        .says("i: sound; 2 of 8 blocks used, clock 2020-01-01T00:00:00.300Z\n");
+}
+
+/// A person is told twenty faults, and how many more there are.
+#[test]
+fn many_faults() {
+    let f = Folder::new();
+    f.run("format i --blocks 64").ends(0);
+    let mut image = f.bytes("i");
+    (0..25).for_each(|block| image[64 * block] = 9);
+    std::fs::write(f.path("i"), &image).unwrap();
+    let said = f.run("check i").ends(1).out;
+    let lines: Vec<&str> = said.lines().collect();
+    assert_eq!(lines.len(), 22);
+    assert_eq!(lines[20], "  block 19: its first byte is 9, and neither 0 nor 1");
+    assert_eq!(lines[21], "  and 5 more; --json tells them all");
+    assert_eq!(
+        f.run("check i --json").ends(1).out.matches("its first byte").count(),
+        25
+    );
+    std::fs::write(f.path("i"), &image[..33792]).unwrap();
+    f.run("check i")
+        .ends(1)
+        .says("i: not sound\n  the last 512 bytes are no trailer: cut to this length, or no image\n");
+    image.resize(2_360_832, 0);
+    std::fs::write(f.path("i"), &image).unwrap();
+    f.run("check i")
+        .ends(1)
+        .says("i: not sound\n  too long: an image of 64 blocks ends at 38400 bytes, and more follow\n");
 }
 
 /// A whole scavenge has many calls, and each its own time.
@@ -296,30 +436,75 @@ fn damage_in_the_middle_of_a_walk() {
         .warns("refused: 9 Damaged");
     f.run("check i")
         .ends(1)
-        .says("i: not sound\n  block 70: unused, and yet its header is not all zero\n");
+        .says(
+        "i: not sound\n  block 70: unused, and yet its header is not all zero\n  blocks that can still be read: 1; --json \
+         has their ids\n",
+    );
+    f.run("check i --json").ends(1).says(&format!(
+        "{{\"report\":0,\"sound\":false,\"faults\":[\"block 70: unused, and yet its header is not all zero\"],\
+         \"readable\":[{{\"block\":0,\"owner\":3,\"id\":\"{id}\"}}]}}\n"
+    ));
+    let refused = format!("{{\"report\":9,\"name\":\"Damaged\",\"ids\":[\"{id}\"],\"calls\":2,\"charge\":0}}\n");
+    f.run("ids i --client 3 --json").ends(109).says(&refused);
     f.run("scavenge i --now 501").ends(109).says("removed 1\n");
 }
 
 #[test]
 fn an_answer_that_cannot_be_written() {
     let f = Folder::new();
+    std::fs::write(f.path("prices"), PRICES).unwrap();
     f.run("format i --blocks 8").ends(0);
     f.shell("zolvortug check i > /dev/full")
         .ends(3)
         .warns("the answer could not be written: No space left on device");
+    f.shell("head -c 528 /dev/zero | zolvortug create i --client 3 --expires never > /dev/full")
+        .ends(3)
+        .warns("the change was made, and its answer could not be written: No space left on device");
     f.shell("set -o pipefail; zolvortug help | true; zolvortug help | head -n 1 > /dev/null")
         .ends(0)
         .says("");
+    f.shell("zolvortug read i 0000000000000000 2> /dev/full").ends(110);
+    f.shell("zolvortug count i --client 3 --tariff prices 2> /dev/full")
+        .ends(0)
+        .says("1\n");
+}
+
+#[test]
+fn forms_of_help() {
+    let f = Folder::new();
+    let help = f.run("help").ends(0).out;
+    for words in ["--help", "-h", "help --help"] {
+        f.run(words).ends(0).says(&help);
+    }
+    let help = f.run("help create").ends(0).out;
+    for words in [
+        "--help create",
+        "-h create",
+        "create --help",
+        "create -h",
+        "create i --client 3 --help",
+    ] {
+        f.run(words).ends(0).says(&help);
+    }
+    f.run("help list").ends(2).warns("there is no verb 'list'");
+    f.run("--version").ends(0).says("zolvortug 0.1.0\n");
 }
 
 #[test]
 fn the_demonstration() {
     let f = Folder::new();
-    f.run("demo").ends(0).says(include_str!("demo.out"));
+    f.shell("TMPDIR=$PWD zolvortug demo")
+        .ends(0)
+        .says(include_str!("demo.out"));
     assert!(f.names().is_empty());
+    f.shell("mkdir zolvortug-demo-$$-0; TMPDIR=$PWD exec zolvortug demo")
+        .ends(0)
+        .says(include_str!("demo.out"));
+    assert_eq!(f.names().len(), 1);
     f.run("demo i").ends(0);
     f.run("check i")
         .ends(0)
         .says("i: sound; 15 of 32 blocks used, clock 2026-01-01T00:17:04.012Z\n");
     f.run("demo i").ends(3).warns("i: there already");
+    f.run("demo i --force").ends(0);
 }
