@@ -17,8 +17,8 @@ fn what_to_do(report: Report) -> &'static str {
         }
         Report::BadUser => "there is no such client. Clients are 0 to 63, and 0 is the manager.",
         Report::BadTime => {
-            "a time is out of range. The store takes ticks 1 to 2^40 - 1, which is up to 2054-11-03T19:53:47.775Z: look \
-             at --now and --expires, or at the image's clock, which `zolvortug check FILE` shows."
+            "a time is out of range. The store takes ticks 1 to 2^40 - 1, which is up to 2054-11-03T19:53:47.775Z: \
+             look at --now and --expires, or at the image's clock, which `zolvortug check FILE` shows."
         }
         Report::ClockNotLater => {
             "now is not after the image's clock, the time of its last change. Leave --now out, or give a later one; \
@@ -32,8 +32,8 @@ fn what_to_do(report: Report) -> &'static str {
              zeros."
         }
         Report::Damaged => {
-            "a header or a count that the call looked at is damaged; the call changed nothing. `zolvortug check FILE` says \
-             which, and which blocks can still be read."
+            "a header or a count that the call looked at is damaged; the call changed nothing. `zolvortug check FILE` \
+             says which, and which blocks can still be read."
         }
         Report::NoSuchBlock => {
             "no stored block has this id. It may have been destroyed, replaced or scavenged; `zolvortug ids FILE \

@@ -60,8 +60,8 @@ fn story(path: &Path, force: bool, paint: Paint) -> Result<String, Stop> {
         paint.bad("not sound")
     };
     Ok(format!(
-        "{setting}\n{table}\n{stored}\n{}\nThe image on the disk is {sound}. That no walk misses a block, whatever falls \
-         between its calls, is proved:\ncrates/demands/specs/Demand3.antt says it.\n\n",
+        "{setting}\n{table}\n{stored}\n{}\nThe image on the disk is {sound}. That no walk misses a block, whatever \
+         falls between its calls, is proved:\ncrates/demands/specs/Demand3.antt says it.\n\n",
         consequence(&ours, &old, paint)
     ))
 }

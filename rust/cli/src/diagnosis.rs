@@ -29,7 +29,7 @@ pub fn faults(image: &[u8]) -> Vec<String> {
     found
 }
 
-/// The blocks that can still be read, with owner and id: all used ones whose headers are good, where the trailer is right.
+/// The blocks that can still be read, with owner and id: where the trailer is right, the used ones with good headers.
 pub fn readable(image: &[u8]) -> Vec<(usize, Client, Id)> {
     let Some(layout) = Layout::of(image.len()).filter(|layout| trailer(image, *layout).is_empty()) else {
         return Vec::new();

@@ -41,7 +41,8 @@ fn a_file_that_is_no_image() {
         ),
         (
             &image[..9000],
-            "cut, or no image: it has 9000 bytes, and the nearest images 6144 bytes (8 blocks) and 10752 bytes (16 blocks)",
+            "cut, or no image: it has 9000 bytes, and the nearest images 6144 bytes (8 blocks) and 10752 bytes \
+             (16 blocks)",
         ),
         (
             &longer,

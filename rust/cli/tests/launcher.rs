@@ -1,5 +1,5 @@
-//! The script `zolvortug` at the root, with stand-ins for rt and cargo: it builds what is old, and never runs what could
-//! not be built.
+//! The script `zolvortug` at the root, with stand-ins for rt and cargo: it builds what is old, and never runs what
+//! could not be built.
 mod common;
 use common::Folder;
 use std::fs;
@@ -12,8 +12,8 @@ mkdir -p target/staticlib && echo library > target/staticlib/libzolvortug.a\n";
 const CARGO: &str = "#!/bin/bash
 echo cargo >> \"$CALLS\"; echo noise
 [[ -z ${CARGO_FAILS-} ]] || exit 1
-mkdir -p target/rust/release && printf '#!/bin/bash\\necho \"in $(basename \"$PWD\"): $*\"; exit 7\\n' > target/rust/release/zolvortug
-chmod +x target/rust/release/zolvortug\n";
+made=target/rust/release/zolvortug; mkdir -p target/rust/release
+printf '#!/bin/bash\\necho \"in $(basename \"$PWD\"): $*\"; exit 7\\n' > $made; chmod +x $made\n";
 
 fn script(f: &Folder, name: &str, text: &str) {
     fs::write(f.path(name), text).unwrap();

@@ -2,8 +2,7 @@
 mod common;
 use common::{Folder, Said};
 
-/// Runs a command line with a terminal for all three streams; what was shown there, and the exit status as its last line.
-/// None where there is no `script`.
+/// Runs a command line with a terminal for all three streams; what was shown there. None where there is no `script`.
 fn at_terminal(f: &Folder, line: &str) -> Option<Said> {
     if f.shell("script --version").status != Some(0) {
         eprintln!("script is not here: what a terminal shows was not looked at");

@@ -434,11 +434,9 @@ fn damage_in_the_middle_of_a_walk() {
         .ends(109)
         .says(&format!("{id}\n"))
         .warns("refused: 9 Damaged");
-    f.run("check i")
-        .ends(1)
-        .says(
-        "i: not sound\n  block 70: unused, and yet its header is not all zero\n  blocks that can still be read: 1; --json \
-         has their ids\n",
+    f.run("check i").ends(1).says(
+        "i: not sound\n  block 70: unused, and yet its header is not all zero\n  \
+         blocks that can still be read: 1; --json has their ids\n",
     );
     f.run("check i --json").ends(1).says(&format!(
         "{{\"report\":0,\"sound\":false,\"faults\":[\"block 70: unused, and yet its header is not all zero\"],\
