@@ -14,15 +14,13 @@ use Rattle.kinds.specs.declared.Receipt.{Receipt}
 use Rattle.kinds.specs.declared.Report.{Report}
 use Rattle.kinds.specs.declared.Report.the-variants.{Success, BadImage, BadUser, BadTime, ClockNotLater}
 use Rattle.kinds.specs.declared.Tick.{Tick}
-use Rattle.promise.specs.Layout.{sizeOf}
 use Rattle.promise.specs.Trailer.{nOf, clockOf, trailerRight}
 use Rattle.promise.specs.Refusals.{Row, lowest, succeeds, badNow, badExpiry, receipt}
-use Rattle.promise.proofs.TrailerLaws.{right}
 use Rattle.promise.proofs.RefusalLaws.{rising}
 use Rattle.promise.proofs.RowLaws.{stopped, clear, passed, now-fits, expiry-fits, is-later, is-client}
 use Rattle.image.specs.Image.{Known, trailerAnswer}
 use Rattle.image.specs.declared.trailer.Trailer.the-variants.{Bad, Right}
-use Rattle.image.proofs.Checks.{not-right, its-trailer, told-known}
+use Rattle.image.proofs.Checks.{not-right, its-trailer, known, told-known}
 use Rattle.front.specs.Rows.{badTimes, readingRows, timeRows, changingRows, frontOf}
 use Rattle.front.specs.declared.Front.the-variants.{Shut, Open}
 
@@ -87,21 +85,6 @@ is-admitted img client ws e =
     let w = clear _ _ (omega arith) e in
     let v = clear _ _ (omega arith) (w .1) in
     (record { trailer = not-false (trailerRight img) (w .0); user = is-client client (v .0) }, v .1)
-
--- an image whose trailer is right
-pub known : (img : List ℕ) (n clock : ℕ) → trailerRight img ≡ true → nOf img ≡ n → clockOf img ≡ clock
-    → Known img n clock
-known img n clock h p q =
-    let r = right img h in
-    record {
-      laid = record {
-        number = rw p at (r .number);
-        size = r .size ∙ ap sizeOf p;
-      };
-      its-n = p;
-      its-clock = q;
-      in-time = omega (arith, r .clock);
-    }
 
 pub its-own : (img : List ℕ) (n clock : ℕ) → Known img n clock → Known img n (clockOf img)
 its-own img n clock k = record

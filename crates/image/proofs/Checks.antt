@@ -65,6 +65,21 @@ not-right img e = was-second (trailerRight img) (λ q. apart cc) e .0
 pub told-bad : (img : List ℕ) → trailerAnswer img ≡ Bad → false ≡ soundImage img
 told-bad img e = sym (split img ∙ rw (not-right img e))
 
+-- an image whose trailer is right
+pub known : (img : List ℕ) (n clock : ℕ) → trailerRight img ≡ true → nOf img ≡ n → clockOf img ≡ clock
+    → Known img n clock
+known img n clock h p q =
+    let r = right img h in
+    record {
+      laid = record {
+        number = rw p at (r .number);
+        size = r .size ∙ ap sizeOf p;
+      };
+      its-n = p;
+      its-clock = q;
+      in-time = omega (arith, r .clock);
+    }
+
 module _ (img : List ℕ) (n : ℕ) (clock : Tick) (e : trailerAnswer img ≡ Right n clock) where
   pub its-trailer : trailerRight img ≡ true
   unfolding trailerAnswer
@@ -76,19 +91,9 @@ module _ (img : List ℕ) (n : ℕ) (clock : Tick) (e : trailerAnswer img ≡ Ri
 
   pub told-known : Known img n (clock .0)
   told-known =
-      let r = right img its-trailer in
       let p : nOf img ≡ n = cc its in
       let t : tick (clockOf img) ≡ clock = cc its in
-      let q : clockOf img ≡ clock .0 = ap (λ (x : Tick). x .0) t in
-      record {
-        laid = record {
-          number = rw p at (r .number);
-          size = r .size ∙ ap sizeOf p;
-        };
-        its-n = p;
-        its-clock = q;
-        in-time = omega (arith, r .clock);
-      }
+      known img n (clock .0) its-trailer p (ap (λ (x : Tick). x .0) t)
 
   pub told-body : bodySound img ≡ soundImage img
   told-body = sym (split img ∙ rw its-trailer)

@@ -26,9 +26,10 @@ use Rattle.promise.specs.GetCount.{GetCountPromise, getCountAnswer, getCountRep
 use Rattle.promise.specs.Status.{StatusPromise, statusAnswer, statusReport, statusRows}
 use Rattle.promise.specs.Read.{ReadPromise, readAnswer, readBuffer, readReport, readRows}
 use Rattle.image.specs.Image.{Laid, Known}
+use Rattle.image.proofs.Checks.{known}
 use Rattle.front.specs.Rows.{readingRows, frontOf}
 use Rattle.promise.proofs.RowLaws.{stopped, passed}
-use Rattle.front.proofs.Fronts.{told-shut, told-open, Admitted, is-admitted, reading-rising, known}
+use Rattle.front.proofs.Fronts.{told-shut, told-open, Admitted, is-admitted, reading-rising}
 use Rattle.store.specs.Store.{findRows, soughtOf, after}
 use Rattle.front.specs.declared.Front.{Front}
 use Rattle.front.specs.declared.Front.the-variants.{Shut, Open}

@@ -36,9 +36,10 @@ use Rattle.promise.specs.Destroy.{destroyWrites, destroyDamaged}
 use Rattle.promise.specs.Replace.{ReplacePromise, replaceAnswer, replaceImage, replaceReport, replaceRows}
 use Rattle.promise.specs.Replace.{replaceWrites}
 use Rattle.image.specs.Image.{Laid}
+use Rattle.image.proofs.Checks.{known}
 use Rattle.front.specs.Rows.{badTimes, readingRows, timeRows, changingRows, frontOf}
 use Rattle.promise.proofs.RowLaws.{clear, stopped, passed, same-rest}
-use Rattle.front.proofs.Fronts.{no-expiry, is-admitted, is-timely, known, changing-rising}
+use Rattle.front.proofs.Fronts.{no-expiry, is-admitted, is-timely, changing-rising}
 use Rattle.store.specs.Store.{findRows, ownRows, soughtOf, after, blockWrites}
 use Rattle.front.specs.declared.Front.{Front}
 use Rattle.store.specs.declared.lookup.Sought.{Sought}

@@ -33,9 +33,10 @@ use Rattle.promise.proofs.RefusalLaws.{rising}
 use Rattle.promise.specs.Create.{CreatePromise, createAnswer, createImage, createReport, createRows, createWrites}
 use Rattle.promise.specs.Create.{createDamaged, lowestFree, noSpace}
 use Rattle.image.specs.Image.{Laid, Known}
+use Rattle.image.proofs.Checks.{known}
 use Rattle.front.specs.Rows.{badTimes, readingRows, timeRows, changingRows, frontOf}
 use Rattle.promise.proofs.RowLaws.{clear, stopped, passed, same-rest}
-use Rattle.front.proofs.Fronts.{is-admitted, is-timely, known, changing-rising}
+use Rattle.front.proofs.Fronts.{is-admitted, is-timely, changing-rising}
 use Rattle.store.specs.Store.{placeRows, soughtOf, after, fillWrites}
 use Rattle.front.specs.declared.Front.{Front}
 use Rattle.store.specs.declared.lookup.Sought.{Sought}
