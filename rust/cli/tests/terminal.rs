@@ -1,6 +1,9 @@
 //! The command at a terminal, which `script` stands in for: what is shown there and not elsewhere.
 mod common;
 use common::{Folder, Said};
+use zolvortug::Tick;
+use zolvortug_cli::layout::clock;
+use zolvortug_cli::time;
 
 /// Runs a command line with a terminal for all three streams; what was shown there. None where there is no `script`.
 fn at_terminal(f: &Folder, line: &str) -> Option<Said> {
@@ -61,9 +64,10 @@ fn bytes_are_not_sent_to_a_terminal() {
     assert!(said.out.contains("the data is missing"), "{said:?}");
 }
 
-/// A walk that takes long, because its writes are slow, tells how far it is.
+/// A walk that takes long, because its writes are slow, tells how far it is; and its calls are made at the times they
+/// are made at.
 #[test]
-fn progress() {
+fn a_slow_walk() {
     let f = Folder::new();
     f.run("format i --blocks 4096").ends(0);
     if f.shell("strace -V").status != Some(0) {
@@ -77,6 +81,12 @@ fn progress() {
         said.out.contains(" of 4096, ") && said.out.contains("\r\x1b[K"),
         "{said:?}"
     );
+    let begin = time::system();
     let quiet = f.shell(slow).ends(0).says("removed 0\n");
     assert_eq!(quiet.err, "");
+    let clock = Tick(clock(&f.bytes("i")));
+    assert!(
+        clock <= time::system() && clock.0 >= begin.0 + 600,
+        "{begin:?} {clock:?}"
+    );
 }
