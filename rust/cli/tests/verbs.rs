@@ -2,6 +2,7 @@
 mod common;
 use common::Folder;
 use std::time::{SystemTime, UNIX_EPOCH};
+use zolvortug::{Client, Store, Tariff, Tick};
 use zolvortug_cli::time::moment;
 
 const PRICES: &str = include_str!("../../../examples/prices");
@@ -458,9 +459,16 @@ fn an_answer_that_cannot_be_written() {
     f.shell("head -c 528 /dev/zero | zolvortug create i --client 3 --expires never > /dev/full")
         .ends(3)
         .warns("the change was made, and its answer could not be written: No space left on device");
-    f.shell("set -o pipefail; zolvortug help | true; zolvortug help | head -n 1 > /dev/null")
+    let mut image = vec![0; zolvortug::size_of_image(4096).unwrap()];
+    zolvortug::format(4096, &mut image).unwrap();
+    let mut store = Store::new(&mut image[..], Tariff::default());
+    for now in 1..=4096 {
+        store.create(Client(3), Tick(now), &BLOCK, Tick(now)).unwrap();
+    }
+    std::fs::write(f.path("full"), &image).unwrap();
+    f.shell("set -o pipefail; zolvortug profile full | head -n 1")
         .ends(0)
-        .says("");
+        .says("owner 3   created 2020-01-01T00:00:00.001Z  expires 2020-01-01T00:00:00.001Z\n");
     f.shell("zolvortug read i 0000000000000000 2> /dev/full").ends(110);
     f.shell("zolvortug count i --client 3 --tariff prices 2> /dev/full")
         .ends(0)
