@@ -1,17 +1,17 @@
 //! The reasons that the command gives are held against the proved check: none where it says yes, some where it says no.
 use zolvortug::{Client, Id, Store, Tariff, Tick};
 use zolvortug_cli::diagnosis::{faults, readable};
+use zolvortug_cli::time::LAST;
 
-/// An image of so many blocks with a few stored: by clients 0, 5, 10 and so on.
+/// An image of so many blocks with a few stored: by clients 0, 5, 10 and so on; the first never expires.
 fn image(blocks: u32, stored: u32) -> Vec<u8> {
     let mut image = vec![0; zolvortug::size_of_image(blocks).unwrap()];
     zolvortug::format(blocks, &mut image).unwrap();
     let mut store = Store::new(&mut image[..], Tariff::default());
     for i in 0..u64::from(stored) {
         let client = Client(5 * i as u32 % 64);
-        store
-            .create(client, Tick(1000 + i), &[i as u8; 528], Tick(100 + i))
-            .unwrap();
+        let expiry = if i == 0 { LAST } else { Tick(1000 + i) };
+        store.create(client, expiry, &[i as u8; 528], Tick(100 + i)).unwrap();
     }
     image
 }
