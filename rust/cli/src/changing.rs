@@ -171,17 +171,21 @@ impl Changing {
     /// Where the image came from standard input, a changed one goes to standard output. After a refusal none does, so
     /// the calls before it have come to nothing.
     fn told(self, answer: Answer) -> Answer {
-        let (text, fields, stream) = match (self.file, answer.refused) {
-            (Some(_), _) => (answer.text, answer.fields, None),
-            (None, None) => (answer.text, answer.fields, Some(self.image)),
-            (None, Some(_)) => (Vec::new(), Vec::new(), Some(Vec::new())),
-        };
-        Answer {
-            text,
-            fields,
-            stream,
-            changed: answer.refused.is_none(),
-            ..answer
+        match (self.file, answer.refused) {
+            (Some(_), refused) => Answer {
+                changed: refused.is_none(),
+                ..answer
+            },
+            (None, None) => Answer {
+                stream: Some(self.image),
+                ..answer
+            },
+            (None, Some(_)) => Answer {
+                text: Vec::new(),
+                fields: Vec::new(),
+                stream: Some(Vec::new()),
+                ..answer
+            },
         }
     }
 }

@@ -52,6 +52,7 @@ pub struct Answer {
     /// What to do about a refusal, where it is not what the report says to every verb.
     hint: Option<&'static str>,
     not_sound: bool,
+    /// A file was changed.
     changed: bool,
     /// Standard output is the image's: the answer is told on standard error, after the image where there is a new one.
     stream: Option<Vec<u8>>,
@@ -103,9 +104,7 @@ impl Answer {
 pub fn run(given: Vec<OsString>) -> u8 {
     let told = match verbs::find(given) {
         Ok(asked) => asked.run().and_then(|answer| tell(answer, &asked.arguments)),
-        Err(verbs::Other::Help(text)) => {
-            put(io::stdout(), text.as_bytes()).map_or_else(|e| Err(unwritten(&e, false)), |()| Ok(0))
-        }
+        Err(verbs::Other::Help(text)) => put(io::stdout(), "the help", text.as_bytes()).map(|()| 0),
         Err(verbs::Other::Wrong(text)) => Err(Stop::Usage(text)),
     };
     let (status, what) = match told {
@@ -124,11 +123,14 @@ fn tell(mut answer: Answer, arguments: &Arguments) -> Result<u8, Stop> {
     } else {
         std::mem::take(&mut answer.text)
     };
-    let told = match &answer.stream {
-        None => put(io::stdout(), &said),
-        Some(image) => all_of(io::stdout(), image).and_then(|()| put(io::stderr(), &said)),
-    };
-    told.map_err(|e| unwritten(&e, answer.changed))?;
+    match &answer.stream {
+        None if answer.changed => put(io::stdout(), "the change was made, and its answer", &said)?,
+        None => put(io::stdout(), "the answer", &said)?,
+        Some(image) => {
+            all_of(io::stdout(), image).map_err(|e| unwritten("the image", &e))?;
+            put(io::stderr(), "the answer", &said)?;
+        }
+    }
     let mut aside = String::new();
     if let (false, true, Some(charge)) = (json, arguments.has("tariff"), answer.charge) {
         aside += &format!("charge {charge}\n");
@@ -136,15 +138,15 @@ fn tell(mut answer: Answer, arguments: &Arguments) -> Result<u8, Stop> {
     if let Some(report) = answer.refused {
         aside += &format!("zolvortug: {}\n", advice::sentence(report, answer.hint));
     }
-    let _ = put(io::stderr(), aside.as_bytes());
+    let _ = all_of(io::stderr(), aside.as_bytes());
     Ok(answer.status())
 }
 
 /// Writes all of a text. A reader that has gone away wants no more of it.
-fn put(to: impl Write, text: &[u8]) -> io::Result<()> {
+fn put(to: impl Write, what: &str, text: &[u8]) -> Result<(), Stop> {
     match all_of(to, text) {
-        Err(e) if e.kind() == ErrorKind::BrokenPipe => Ok(()),
-        done => done,
+        Err(e) if e.kind() != ErrorKind::BrokenPipe => Err(unwritten(what, &e)),
+        _ => Ok(()),
     }
 }
 
@@ -153,7 +155,6 @@ fn all_of(mut to: impl Write, bytes: &[u8]) -> io::Result<()> {
     to.flush()
 }
 
-fn unwritten(e: &io::Error, changed: bool) -> Stop {
-    let made = if changed { "the change was made, and its" } else { "the" };
-    Stop::File(format!("{made} answer could not be written: {}", image_file::said(e)))
+fn unwritten(what: &str, e: &io::Error) -> Stop {
+    Stop::File(format!("{what} could not be written: {}", image_file::said(e)))
 }

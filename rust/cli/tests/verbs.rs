@@ -289,7 +289,7 @@ fn a_refused_or_broken_pipe() {
         "set -o pipefail; zolvortug create - --client 3 --expires never --data block < i | head -c 100 > /dev/null",
     )
     .ends(3)
-    .warns("the change was made, and its answer could not be written: Broken pipe");
+    .warns("zolvortug: the image could not be written: Broken pipe\n");
 }
 
 #[test]
