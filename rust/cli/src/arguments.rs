@@ -13,12 +13,6 @@ pub struct Opt {
     pub what: &'static str,
 }
 
-pub const JSON: Opt = Opt {
-    name: "json",
-    value: "",
-    what: "the answer as JSON, one object on one line",
-};
-
 pub struct Arguments {
     verb: &'static Verb,
     words: Vec<OsString>,

@@ -123,8 +123,10 @@ impl Changing {
             ImageFile::open(a.file()).map(|opened| file.insert(opened).bytes().to_vec())
         };
         let image = image.map_err(|fault| failed(a.file(), fault))?;
-        if let (Some(file), Some(writes)) = (&mut file, cut) {
-            file.cut_after(writes);
+        match (&mut file, cut) {
+            (Some(file), Some(writes)) => file.cut_after(writes),
+            (None, Some(_)) => return Err(Stop::Usage("a pipe has no writes that --cut-after could count".into())),
+            _ => {}
         }
         let now = match a.text("now") {
             Some(text) => time::moment(&text)?,

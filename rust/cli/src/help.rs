@@ -51,5 +51,6 @@ pub fn of_command() -> String {
         `zolvortug help VERB` says more, with an example. FILE may be -: the image then comes from standard input,\n\
         and a changed one goes to standard output.\n\
         \n\
-        exit status: 0 done, 1 not sound, 2 wrongly called, 3 a file failed, 100 + n refused with report n\n"
+        exit status: 0 done, 1 not sound, 2 wrongly called, 3 a file failed, 4 a fault of the command itself,\n\
+        100 + n refused with report n\n"
 }

@@ -1,5 +1,5 @@
 //! The verbs: what each takes, what it says of itself, and what it does.
-use crate::arguments::{Arguments, Opt, JSON};
+use crate::arguments::{Arguments, Opt};
 use crate::changing::{create, destroy, expire, format, replace, scavenge};
 use crate::demo::demo;
 use crate::help;
@@ -124,6 +124,7 @@ const TAG: Opt = opt(
     "HEX",
     "the first 16 bytes as 32 hex digits; the data is then 512 bytes",
 );
+const JSON: Opt = opt("json", "", "the answer as JSON, one object on one line");
 const PAD: Opt = opt("pad", "", "fills data that is too short up with zero bytes");
 const CUT: Opt = opt(
     "cut-after",

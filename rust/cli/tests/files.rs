@@ -385,14 +385,46 @@ fn each_write_is_synced() {
         return;
     }
     assert_eq!(calls[..10], ["pwrite64", "fdatasync"].repeat(5));
-    assert_eq!(
-        traced("format j --blocks 8")[..4],
-        ["write", "fsync", "linkat", "fsync"]
-    );
+    let id = f.run("ids i --client 3").ends(0).line();
+    let new = ["write", "fsync", "linkat", "fsync"];
+    assert_eq!(traced(&format!("read i {id} -o out"))[..4], new);
+    assert_eq!(traced("format j --blocks 8")[..4], new);
     assert_eq!(
         traced("format j --blocks 8 --force")[..4],
         ["write", "fsync", "rename", "fsync"]
     );
+}
+
+/// A draft takes no name that somebody has, and leaves it alone.
+#[test]
+fn a_draft_has_a_name_of_its_own() {
+    let f = Folder::new();
+    f.shell("echo mine > .zolvortug-$$-0.new; exec zolvortug format i --blocks 8")
+        .ends(0);
+    let names = f.names();
+    assert_eq!((names.len(), &names[1][..]), (2, "i"), "{names:?}");
+    assert_eq!(f.bytes(&names[0]), b"mine\n");
+}
+
+/// A file that is replaced stays locked until another has its name: what is stored meanwhile is stored in the new one.
+#[test]
+fn a_command_beside_a_slow_format() {
+    let f = Folder::new();
+    stored(&f);
+    fs::write(f.path("block"), BLOCK).unwrap();
+    if f.shell("strace -V").status != Some(0) {
+        eprintln!("strace is not here: no format could be made slow");
+        return;
+    }
+    let said = f.shell(&format!(
+        "strace -o /dev/null -e trace=fsync -e inject=fsync:delay_enter=500000:when=1 \
+             zolvortug format i --blocks 8 --force &
+         while ! ls .zolvortug-*.new; do sleep 0.01; done > /dev/null 2>&1
+         zolvortug {CREATE} --data block; wait"
+    ));
+    said.ends(0);
+    f.run("count i --client 3").ends(0).says("1\n");
+    assert_eq!(f.bytes("i").len(), 6144);
 }
 
 /// Replace writes the trailer, the header as unused, the data, then the new header.

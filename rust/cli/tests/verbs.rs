@@ -280,6 +280,10 @@ fn a_refused_or_broken_pipe() {
     let mut image = f.bytes("i");
     image[64 * 70] = 9;
     std::fs::write(f.path("j"), &image).unwrap();
+    f.shell("zolvortug scavenge - --cut-after 1 < i")
+        .ends(2)
+        .says("")
+        .warns("a pipe has no writes");
     let refused = "{\"report\":9,\"name\":\"Damaged\",\"charge\":0}\n";
     f.shell("zolvortug scavenge - --json < j")
         .ends(109)
