@@ -9,9 +9,10 @@
  * read it may overlap in time. What one call is lent to read and what it is lent to write must not overlap in memory. A
  * length of 0 allows any pointer, NULL too.
  *
- * No bytes, numbers or lengths are forbidden. Every call ends with a report, Check's with yes or no. A refused call
- * changes no byte of the image or of a buffer; a refused operation costs the error price, and Format and Check are
- * free. All of this is proved; docs/PROMISES.md says where. docs/MANUAL.md says more of all that follows.
+ * No bytes, numbers or lengths are forbidden. Every call ends with a report, Check's with yes or no, and a step of a
+ * reader with a phase, a gap or the end. A refused call changes no byte of the image or of a buffer; a refused
+ * operation costs the error price, and Format, Check and readers are free. All of this is proved; docs/PROMISES.md says
+ * where. docs/MANUAL.md says more of all that follows.
  *
  * Link libzolvortug.a, which `rt staticlib zolvortug` writes to target/staticlib. It is for x86-64 Linux. */
 #ifndef ZOLVORTUG_H
@@ -25,11 +26,15 @@
 extern "C" {
 #endif
 
-#define ZOLVORTUG_BLOCK 528u         /* bytes of a service block: a tag of 16, then 512 of data */
-#define ZOLVORTUG_MOST 64u           /* ids a step, and entries a call, at most */
-#define ZOLVORTUG_PROFILE_ROOM 1536u /* bytes that Profile asks for: 64 entries of 24 */
+#define ZOLVORTUG_BLOCK 528u          /* bytes of a service block: a tag of 16, then 512 of data */
+#define ZOLVORTUG_MOST 64u            /* ids a step, and entries a call, at most */
+#define ZOLVORTUG_PROFILE_ROOM 1536u  /* bytes that Profile asks for: 64 entries of 24 */
 #define ZOLVORTUG_START_KEY 0u
 #define ZOLVORTUG_END_KEY 65535u
+#define ZOLVORTUG_SAMPLES 128u        /* samples that a block of a series has room for */
+#define ZOLVORTUG_SEQUENCES 4096u     /* sequences of a series are below this */
+#define ZOLVORTUG_LARGEST 1048576     /* picoseconds, 2^20: a phase is from minus this to this */
+#define ZOLVORTUG_NOT_TAKEN INT32_MIN /* -2^31: the mark of a sample that was not taken */
 
 /* How a call ended, in the order in which the reasons are tested. */
 enum zolvortug_report {
@@ -45,7 +50,10 @@ enum zolvortug_report {
     ZOLVORTUG_DAMAGED = 9,         /* a header or a count that the call looked at is damaged */
     ZOLVORTUG_NO_SUCH_BLOCK = 10,  /* no stored block has this id */
     ZOLVORTUG_NOT_OWNER = 11,      /* the block is another client's */
-    ZOLVORTUG_NO_SPACE = 12        /* no block is free */
+    ZOLVORTUG_NO_SPACE = 12,       /* no block is free */
+    ZOLVORTUG_NO_SERIES = 13,      /* no block of the client belongs to the series */
+    ZOLVORTUG_BAD_TAG = 14,        /* a tag or a sample of the series breaks its rules */
+    ZOLVORTUG_SEQUENCE_TWICE = 15  /* two blocks of the series have one sequence */
 };
 
 /* Ten prices, the error price, and the rate of a block for a tick. */
@@ -122,6 +130,45 @@ typedef struct zolvortug_stepped { /* a step: the record after it, and the rest 
     uint8_t report;
 } zolvortug_stepped;
 
+/* A series is a channel's samples in order. A block belongs to a series of its owner if its tag begins with the number
+ * of the series; a store keeps any other block too. Such a block must be, low byte first:
+ *
+ *     tag    at 0   series, 4 bytes
+ *            at 4   sequence, 4 bytes: below 4,096, and no other block of the series has it
+ *            at 8   number of samples, 1 byte: 1 to 128
+ *            at 9   zeros, 7 bytes
+ *     data   at 16  128 samples of 4 bytes, signed: each from -2^20 to 2^20 picoseconds, or ZOLVORTUG_NOT_TAKEN where
+ *                   none was taken; the slots after the last sample, from the number of samples on, hold that too
+ *
+ * Sample i of sequence q has place 128 * q + i. A reader gives every place from 0 to the last of the highest sequence,
+ * as a phase or as a gap: 128 gaps where no block has the sequence. */
+
+/* Where a reader stands, kept by its caller. Open one by zolvortug_series_open, change no field, and lend each step the
+ * image that it was opened on, unchanged. */
+typedef struct zolvortug_place {
+    uint32_t n;
+    uint32_t client;
+    uint32_t series;
+    uint32_t block;
+    uint32_t sequence;
+    uint32_t slot;
+    uint32_t at;  /* the next place */
+    uint32_t end; /* the number of places: 128 * q + 128, q the highest sequence */
+    uint32_t report;
+} zolvortug_place;
+
+/* What a step of a reader answers. */
+enum zolvortug_answer {
+    ZOLVORTUG_ENDED = 0, /* there are no more places, or the opening was refused */
+    ZOLVORTUG_PHASE = 1, /* a sample was taken: its phase */
+    ZOLVORTUG_GAP = 2    /* none was taken, or no block has this sequence */
+};
+
+typedef struct zolvortug_sampled { /* a step of a reader */
+    double phase;                  /* picoseconds, exactly the stored number; not a number at a gap and at the end */
+    uint8_t answer;
+} zolvortug_sampled;
+
 /* The bytes of an image of n blocks, n a multiple of 8 from 8 to 4,096; 0 for any other n. */
 size_t zolvortug_size(uint32_t n);
 
@@ -187,6 +234,22 @@ static inline zolvortug_stepped zolvortug_walk_step(zolvortug_tariff t, zolvortu
     zolvortug_stepped s = zolvortug_step(t, *w, ids, ids_len, img, img_len);
     *w = s.walk;
     return s;
+}
+
+/* Opens a reader on a client's series, before its first place. Free; it may be refused with ZOLVORTUG_BAD_IMAGE,
+ * ZOLVORTUG_BAD_USER, ZOLVORTUG_DAMAGED (any header of the image), ZOLVORTUG_NO_SERIES, ZOLVORTUG_BAD_TAG or
+ * ZOLVORTUG_SEQUENCE_TWICE, and then all is 0 but the report. */
+zolvortug_place zolvortug_series_open(uint32_t client, uint32_t series, const uint8_t *img, size_t img_len);
+
+/* A step of a reader: what stands at the next place. The nine words of its place are updated where they stand. Free. At
+ * the end, after a refused opening, where the image is too short for the sample, and where the words are not nine, it
+ * answers ZOLVORTUG_ENDED and leaves them as they were. */
+zolvortug_sampled zolvortug_series_step(uint32_t *p, size_t p_len, const uint8_t *img, size_t img_len);
+
+/* The same, by the record. */
+static inline zolvortug_sampled zolvortug_place_step(zolvortug_place *p, const uint8_t *img, size_t img_len)
+{
+    return zolvortug_series_step((uint32_t *)p, sizeof *p / sizeof(uint32_t), img, img_len);
 }
 
 #ifdef __cplusplus

@@ -20,6 +20,10 @@ use Rattle.promise.specs.Walk.{endedAnswer, stepAnswer, stepBuffer, stepWalk}
 use Rattle.promise.specs.Call.{Call, GetIds, rowsOf, outcome}
 use Rattle.promise.proofs.CallLaws.{report-lowest}
 use Rattle.demands.specs.Demand1.{RefusedCall, RefusedStep, Among, Demand1, Demand1Step, Demand1Format}
+use Rattle.demands.specs.Demand1.{Demand1Open}
+use Rattle.series.specs.Series.{openRows}
+use Rattle.series.specs.Reader.{started, refusedPlace}
+use Rattle.series.proofs.Gives.{told, refused-place}
 use Rattle.promise.proofs.CallLaws.{refusal-is}
 
 not-success : (r : Report) → ¬ (r ≡ Success) → succeeds r ≡ false
@@ -90,3 +94,14 @@ demand1-format n img = go (formatRight n img) refl
         ⊎ ((formatReport n img ≡ BadImage) × (formatImage n img ≡ img))
     go true e = inl (rw e)
     go false e = inr (rw e, rw e)
+
+pub demand1-open : Demand1Open
+demand1-open =
+    record {
+      listed = λ img client series. subst (Among (openRows img (client .0) series)) (sym (told img client series))
+          (lowest-among (openRows img (client .0) series));
+      refused = λ img client series h.
+          let e = told img client series in
+          refused-place img client series (ap succeeds (sym e) ∙ not-success (started img client series .report) h)
+          ∙ ap refusedPlace (sym e);
+    }

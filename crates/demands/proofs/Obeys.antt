@@ -16,6 +16,7 @@ use Rattle.kinds.specs.Report.{numberOf}
 use Rattle.kinds.specs.declared.Report.{Report}
 use Rattle.kinds.specs.declared.Report.the-variants.{Success, BadImage, BadUser, BadTime, ClockNotLater, NotManager}
 use Rattle.kinds.specs.declared.Report.the-variants.{BadKey, BadCount, BadRoom, Damaged, NoSuchBlock, NotOwner, NoSpace}
+use Rattle.kinds.specs.declared.Report.the-variants.{NoSeries, BadTag, SequenceTwice}
 use Rattle.tariff.specs.declared.Tariff.{Tariff}
 use Rattle.promise.specs.Trailer.{nOf, clockOf, trailerRight}
 use Rattle.promise.specs.Header.{laterOf}
@@ -61,6 +62,9 @@ says-other Damaged h e = true≢false (cc e)
 says-other NoSuchBlock h e = true≢false (cc e)
 says-other NotOwner h e = true≢false (cc e)
 says-other NoSpace h e = true≢false (cc e)
+says-other NoSeries h e = true≢false (cc e)
+says-other BadTag h e = true≢false (cc e)
+says-other SequenceTwice h e = true≢false (cc e)
 
 -- a report that a call on a sound image can be refused with
 abbrev pub fair : Report → Bool

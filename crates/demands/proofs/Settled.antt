@@ -29,4 +29,6 @@ settled =
           λ t img client key buffer a b x y p q. (both-are (p .answer) (q .answer), both-are (p .given) (q .given));
       step = λ t img w ids a b w′ w″ ids′ ids″ p q.
           (both-are (p .answer) (q .answer), both-are (p .walk) (q .walk), both-are (p .given) (q .given));
+      open-series = λ img client series a b p q. both-are p q;
+      next-sample = λ img p a b p′ p″ x y. (both-are (x .answer) (y .answer), both-are (x .place) (y .place));
     }

@@ -9,6 +9,7 @@ use mathlib.Core.Logic.{_⊎_}
 use Rattle.word.specs.Word.{blank}
 use Rattle.kinds.specs.declared.Report.{Report}
 use Rattle.kinds.specs.declared.Report.the-variants.{Success, BadImage}
+use Rattle.kinds.specs.declared.User.{User}
 use Rattle.kinds.specs.declared.Walk.{Walk}
 use Rattle.tariff.specs.Charges.{errorCharge}
 use Rattle.tariff.specs.declared.Tariff.{Tariff}
@@ -19,6 +20,8 @@ use Rattle.promise.specs.Walk.{stepAnswer, stepBuffer, stepWalk}
 use Rattle.promise.specs.Call.{Call}
 use Rattle.promise.specs.Call.{lent, keyReceived, rowsOf, Outcome}
 use Rattle.promise.specs.Call.{resultsOf}
+use Rattle.series.specs.Series.{openRows}
+use Rattle.series.specs.Reader.{started, refusedPlace}
 use Rattle.demands.specs.Service.{Service}
 
 -- a refused operation: the image and the buffer as they were, zeros for all results, the error price, and the key that
@@ -61,3 +64,10 @@ pub record Demand1Step : Type 0 where
 abbrev pub Demand1Format : Type 0
 Demand1Format = (n : ℕ) (img : List ℕ) → (formatReport n img ≡ Success)
     ⊎ ((formatReport n img ≡ BadImage) × (formatImage n img ≡ img))
+
+-- of the opening of a series, which is free and lent the image to read alone: after a refusal all but the report is 0
+pub record Demand1Open : Type 0 where
+  pub listed : (img : List ℕ) (client : User) (series : ℕ)
+      → Among (openRows img (client .0) series) (started img client series .report)
+  pub refused : (img : List ℕ) (client : User) (series : ℕ) → ¬ (started img client series .report ≡ Success)
+      → started img client series ≡ refusedPlace (started img client series .report)

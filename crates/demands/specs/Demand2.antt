@@ -14,6 +14,7 @@ use Rattle.word.specs.Word.{wordAt, Bytes}
 use Rattle.kinds.specs.declared.Report.{Report}
 use Rattle.kinds.specs.declared.Report.the-variants.{Success, BadImage, BadUser, BadTime, ClockNotLater, NotManager}
 use Rattle.kinds.specs.declared.Report.the-variants.{BadKey, BadCount, BadRoom, Damaged, NoSuchBlock, NotOwner, NoSpace}
+use Rattle.kinds.specs.declared.Report.the-variants.{NoSeries, BadTag, SequenceTwice}
 use Rattle.ident.specs.Ident.{idOf}
 use Rattle.tariff.specs.declared.Tariff.{Tariff}
 use Rattle.promise.specs.Layout.{numberRight}
@@ -59,6 +60,9 @@ says Damaged = none
 says NoSuchBlock = some PRG.NoSuchBlockReport
 says NotOwner = some PRG.NotOwnerReport
 says NoSpace = some PRG.NoSpaceReport
+says NoSeries = none
+says BadTag = none
+says SequenceTwice = none
 
 abbrev pub costs : Tariff → Costs
 costs t =

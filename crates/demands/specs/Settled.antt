@@ -4,6 +4,7 @@ use Prim.Native.Nat.{ℕ}
 use mathlib.Core.Path.{_≡_}
 use mathlib.Core.List.{List}
 use Rattle.kinds.specs.declared.GetIdsAnswer.{GetIdsAnswer}
+use Rattle.kinds.specs.declared.User.{User}
 use Rattle.kinds.specs.declared.Walk.{Walk}
 use Rattle.tariff.specs.declared.Tariff.{Tariff}
 use Rattle.promise.specs.Sound.{CheckPromise}
@@ -19,6 +20,9 @@ use Rattle.promise.specs.GetCount.{GetCountPromise}
 use Rattle.promise.specs.Scavenge.{ScavengePromise}
 use Rattle.promise.specs.Profile.{ProfilePromise}
 use Rattle.promise.specs.Walk.{StepPromise}
+use Rattle.series.specs.Reader.{OpenPromise, NextPromise}
+use Rattle.series.specs.declared.Answer.{Answer as Reading}
+use Rattle.series.specs.declared.Place.{Place}
 
 -- a promise of an answer, and one of an answer and of the memory lent, settle them
 abbrev pub Answer : {A : Type 0} → (A → Type 0) → Type 0
@@ -49,3 +53,7 @@ pub record Settled : Type 0 where
   pub step : (t : Tariff) (img : List ℕ) (w : Walk) (ids : List ℕ) (a b : GetIdsAnswer) (w′ w″ : Walk)
       (ids′ ids″ : List ℕ)
       → StepPromise t img w ids a w′ ids′ → StepPromise t img w ids b w″ ids″ → (a ≡ b) × (w′ ≡ w″) × (ids′ ≡ ids″)
+  -- a reader's opening, and a step of it
+  pub open-series : (img : List ℕ) (client : User) (series : ℕ) → Answer (OpenPromise img client series)
+  pub next-sample : (img : List ℕ) (p : Place) (a b : Reading) (p′ p″ : Place)
+      → NextPromise img p a p′ → NextPromise img p b p″ → (a ≡ b) × (p′ ≡ p″)

@@ -11,6 +11,7 @@ ghost use Rattle.promise.specs.Layout.{headerAt};
 ghost use Rattle.promise.specs.Header.{ownerOf, idIn, createdOf, expiresOf, isUsed, usedRight, goodHeader, headerBytes};
 ghost use Rattle.promise.specs.Header.{headerZeroed};
 ghost use Rattle.promise.specs.Map.{good};
+ghost use Rattle.promise.specs.Counts.{ownedBy};
 ghost use Rattle.image.specs.Image.{Known, shapeTests, timeTests};
 use crate::both;
 use crate::layout::CREATED_AT;
@@ -59,6 +60,21 @@ pub fn expires(h: &[u8]) -> Tick
     ensures { λ r. ⌜ r ≡ tick (expiresOf (now (h .entry))) ⌝ }
 {
     Tick(word::get64(h, EXPIRES_AT))
+}
+
+// Whether a block is used and the client's.
+pub fn is_owned(img: &[u8], client: User, b: usize) -> bool
+    requires { ⌜ headerAt b + 64 ≤ length (now img) ⌝ }
+    ensures { λ r. ⌜ r ≡ ownedBy (now (img .entry)) (client .0) b ⌝ }
+{
+    let at = HEADER * b;
+    let end = at + HEADER;
+    let h = &img[at..end];
+    if !is_used(h) {
+        return false;
+    }
+    let his = owner(h);
+    his.0 == client.0
 }
 
 // The first 8 bytes as one number: less 1, and without the owner's six bits, it is 0. The difference keeps it one load.

@@ -38,7 +38,7 @@ use Rattle.front.proofs.Fronts.{told-open, reading-rising}
 use Rattle.keys.specs.Visit.{used, entryOf}
 use Rattle.keys.specs.Asked.{managerRows}
 use Rattle.keys.proofs.Rows.{Refused, in-front, by-numbers, by-headers}
-use Rattle.keys.proofs.Visits.{lent}
+use Rattle.image.proofs.Lent.{lent}
 
 -- an entry has 24 bytes
 pub length-profileRow : (img : List ℕ) (b : ℕ) → length (profileRow img b) ≡ 24

@@ -37,7 +37,8 @@ use Rattle.keys.specs.Visit.{visitedOf}
 use Rattle.keys.specs.Asked.{idsRows}
 use Rattle.keys.specs.declared.visit.Visited.the-variants.{Good, Bad}
 use Rattle.keys.proofs.Rows.{Refused, in-front, by-numbers, by-headers}
-use Rattle.keys.proofs.Visits.{lent, told-bad, told-good}
+use Rattle.image.proofs.Lent.{lent}
+use Rattle.keys.proofs.Visits.{told-bad, told-good}
 
 -- an entry has 8 bytes
 pub length-idRow : (img : List ℕ) (b : ℕ) → length (idRow img b) ≡ 8

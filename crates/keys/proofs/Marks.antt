@@ -23,7 +23,7 @@ use Rattle.promise.specs.Counts.{countOf}
 use Rattle.promise.specs.Scavenge.{expired}
 use Rattle.image.proofs.Tallies.{lent-header}
 use Rattle.keys.specs.Marks.{markOf, marked, marksOf, raisedAt, hasCount, freed, removedBy, owes, Tallies}
-use Rattle.keys.proofs.Visits.{lent}
+use Rattle.image.proofs.Lent.{lent}
 use Rattle.run.specs.Tally.{picked-mono, picked-same}
 
 -- ---- the mark of a header

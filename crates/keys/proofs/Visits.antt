@@ -1,36 +1,17 @@
 -- What the tests of the headers that a call visits come to, in the terms of the code.
 -- Assumes nothing.
-use Prim.Native.Nat.{ℕ, zero, suc, _+_, _-_, _*_, _≤_}
+use Prim.Native.Nat.{ℕ, zero, suc, _+_, _-_, _≤_}
 use mathlib.Core.Path.{_≡_, refl, sym, ap}
 use mathlib.Core.Bool.{Bool, true, false}
 use mathlib.Core.List.{List}
 use native.Mathlib.Omega.{arith}
-use lib.Dec.{eqb}
-use lib.ListN.{take, drop}
 use Rattle.plain.specs.Tests.{was-first, was-second, apart}
 use Rattle.run.specs.Run.{one, visits}
 use Rattle.run.specs.Laws.{one-le}
-use Rattle.promise.specs.Header.{isUsed, ownerOf}
 use Rattle.promise.specs.Counts.{ownedBy}
 use Rattle.promise.specs.Keys.{visitedGood}
-use Rattle.image.proofs.Tallies.{lent-header}
 use Rattle.keys.specs.Visit.{visitedOf}
 use Rattle.keys.specs.declared.visit.Visited.the-variants.{Good, Bad}
-
--- ---- a header, as it is lent
-
-abbrev pub lent : List ℕ → ℕ → List ℕ
-lent img b = take (64 * b + 64 - 64 * b) (drop (64 * b) img)
-
-module _ (img : List ℕ) (client b : ℕ) where
-  pub owned-not : isUsed (lent img b) ≡ false → false ≡ ownedBy img client b
-  unfolding ownedBy
-  owned-not e = sym (rw (rw (lent-header img b) at e))
-
-  pub owned-by : (owner : ℕ) → isUsed (lent img b) ≡ true → owner ≡ ownerOf (lent img b)
-      → eqb owner client ≡ ownedBy img client b
-  unfolding ownedBy
-  owned-by owner e o = sym (rw (rw (lent-header img b) at e, o, lent-header img b))
 
 -- ---- what the tests come to
 

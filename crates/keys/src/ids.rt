@@ -38,7 +38,7 @@ fn name_id(img: &[u8], client: User, b: usize, ids: &mut [u8], k: usize) -> usiz
     ensures bytes { λ r. ⌜ now (ids .exit) ≡ over (now (ids .entry)) (8 * k)
         (rows (idRow (now (img .entry))) (just (ownedBy (now (img .entry)) (client .0)) b)) ⌝ }
 {
-    if !visit::is_owned(img, client, b) {
+    if !header::is_owned(img, client, b) {
         return k;
     }
     let at = HEADER * b;

@@ -9,7 +9,6 @@ ghost use Rattle.promise.specs.Keys.{visitedGood};
 ghost use Rattle.image.specs.Image.{Known};
 ghost use Rattle.keys.specs.Visit.{visitedOf};
 use image::header;
-use image::layout::HEADER;
 use kinds::BlockNum;
 use kinds::Tick;
 use kinds::User;
@@ -21,27 +20,16 @@ pub(crate) enum Visited {
     Bad,
 }
 
-// Whether a block is used and the client's.
-pub(crate) fn is_owned(img: &[u8], client: User, b: usize) -> bool
-    requires { ⌜ headerAt b + 64 ≤ length (now img) ⌝ }
-    ensures { λ r. ⌜ r ≡ ownedBy (now (img .entry)) (client .0) b ⌝ }
-{
-    let at = HEADER * b;
-    let end = at + HEADER;
-    let h = &img[at..end];
-    if !header::is_used(h) {
-        return false;
-    }
-    let owner = header::owner(h);
-    owner.0 == client.0
-}
-
 // 1 for a block that is used and the client's, else 0.
 fn count_owned(img: &[u8], client: User, b: usize) -> u32
     requires { ⌜ headerAt b + 64 ≤ length (now img) ⌝ }
     ensures { λ r. ⌜ r ≡ one (ownedBy (now (img .entry)) (client .0)) b ⌝ }
 {
-    if is_owned(img, client, b) { 1 } else { 0 }
+    if header::is_owned(img, client, b) {
+        1
+    } else {
+        0
+    }
 }
 
 // Tests headers from a block number upward, up to `most`, and none after `count` of the client's blocks have been met.

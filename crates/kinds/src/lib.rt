@@ -38,6 +38,9 @@ pub enum Report {
     NoSuchBlock,
     NotOwner,
     NoSpace,
+    NoSeries,
+    BadTag,
+    SequenceTwice,
 }
 
 // The number of a report.
@@ -58,6 +61,9 @@ pub fn number(r: Report) -> u8
         Report::NoSuchBlock => 10,
         Report::NotOwner => 11,
         Report::NoSpace => 12,
+        Report::NoSeries => 13,
+        Report::BadTag => 14,
+        Report::SequenceTwice => 15,
     }
 }
 

@@ -10,6 +10,7 @@ use image::layout::ALL_BUT_BLOCKS;
 use image::layout::EACH_BLOCK;
 
 pub mod keyed;
+pub mod places;
 pub mod single;
 
 // The bytes of an image of n service blocks, 0 where there is no such image.

@@ -10,7 +10,8 @@ pub fn sentence(report: Report, hint: Option<&str>) -> String {
     )
 }
 
-fn what_to_do(report: Report) -> &'static str {
+/// What a report means to every verb, and what to do.
+pub fn what_to_do(report: Report) -> &'static str {
     match report {
         Report::BadImage => {
             "the trailer is not that of an image of this length. `zolvortug check FILE` says what is wrong."
@@ -43,6 +44,17 @@ fn what_to_do(report: Report) -> &'static str {
         Report::NoSpace => {
             "every block is in use. `zolvortug scavenge FILE` removes what has expired; destroy what is no longer \
              needed."
+        }
+        Report::NoSeries => {
+            "no block of the client belongs to this series. Look at --client and --series: a block belongs to the \
+             series whose number its tag begins with."
+        }
+        Report::BadTag => {
+            "a block of the series has a tag or a sample that breaks its rules. Replace that block by a right one, or \
+             destroy it; `zolvortug help series` has the rules."
+        }
+        Report::SequenceTwice => {
+            "two blocks of the series have one sequence. Destroy the one that is not wanted, or replace it."
         }
     }
 }

@@ -16,7 +16,7 @@ pub fn format(a: &Arguments) -> Result<Answer, Stop> {
     if let Err(report) = zolvortug::format(blocks, &mut image) {
         return Ok(Answer {
             refused: Some(report),
-            hint: Some("an image has a multiple of 8 blocks, from 8 to 4096. Give --blocks such a number."),
+            hint: Some("an image has a multiple of 8 blocks, from 8 to 4096. Give --blocks such a number.".into()),
             ..Answer::default()
         });
     }

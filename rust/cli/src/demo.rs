@@ -19,7 +19,8 @@ pub fn demo(a: &Arguments) -> Result<Answer, Stop> {
         Some(path) if is_stream(path) => return Err(Stop::Usage("the demonstration keeps its image in a file".into())),
         Some(path) => {
             let name = path.display();
-            story(path, force, paint)? + &format!("The image is kept: try `zolvortug ids {name} --client 2`.\n")
+            let try_ids = format!("The image is kept: try `zolvortug ids {name} --client 2`,\n");
+            story(path, force, paint)? + &try_ids + &format!("or `zolvortug series {name} --client 2 --series 2`.\n")
         }
         None => {
             let go_on = "`zolvortug demo FILE` keeps the image; then try `zolvortug ids FILE --client 2`.\n";

@@ -2,6 +2,7 @@
 use std::fmt::{self, Display, Formatter};
 
 pub enum Json {
+    Null,
     Flag(bool),
     Number(i64),
     Text(String),
@@ -45,6 +46,7 @@ impl From<String> for Json {
 impl Display for Json {
     fn fmt(&self, f: &mut Formatter) -> fmt::Result {
         match self {
+            Json::Null => f.write_str("null"),
             Json::Flag(flag) => write!(f, "{flag}"),
             Json::Number(number) => write!(f, "{number}"),
             Json::Text(text) => quoted(f, text),
@@ -93,9 +95,9 @@ mod tests {
             ("flag", true.into()),
             ("least", i64::MIN.into()),
             ("text", String::from("a\"b\\c\nd é").into()),
-            ("list", Json::List(vec![1u32.into(), Json::List(vec![])])),
+            ("list", Json::List(vec![1u32.into(), Json::Null, Json::List(vec![])])),
         ]);
-        let wanted = r#"{"flag":true,"least":-9223372036854775808,"text":"a\"b\\c\u000ad é","list":[1,[]]}"#;
+        let wanted = r#"{"flag":true,"least":-9223372036854775808,"text":"a\"b\\c\u000ad é","list":[1,null,[]]}"#;
         assert_eq!(record.to_string(), wanted);
     }
 }

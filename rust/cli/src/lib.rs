@@ -11,6 +11,8 @@ mod json;
 pub mod layout;
 mod reading;
 mod recorder;
+mod series;
+pub mod series_faults;
 pub mod tariff_file;
 mod terminal;
 pub mod time;
@@ -50,7 +52,7 @@ pub struct Answer {
     charge: Option<i64>,
     refused: Option<Report>,
     /// What to do about a refusal, where it is not what the report says to every verb.
-    hint: Option<&'static str>,
+    hint: Option<String>,
     not_sound: bool,
     /// A file was changed.
     changed: bool,
@@ -136,7 +138,7 @@ fn tell(mut answer: Answer, arguments: &Arguments) -> Result<u8, Stop> {
         aside += &format!("charge {charge}\n");
     }
     if let Some(report) = answer.refused {
-        aside += &format!("zolvortug: {}\n", advice::sentence(report, answer.hint));
+        aside += &format!("zolvortug: {}\n", advice::sentence(report, answer.hint.as_deref()));
     }
     let _ = all_of(io::stderr(), aside.as_bytes());
     Ok(answer.status())

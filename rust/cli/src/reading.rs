@@ -4,7 +4,7 @@ use crate::given::{client, failed, id_given, shown_id, store_read};
 use crate::image_file::{self, are_one_file, is_stream, FileFault};
 use crate::json::{Field, Json};
 use crate::layout::{blocks_of, clock, disk_block, word, Layout, DISK};
-use crate::terminal::Progress;
+use crate::terminal::{shortened, Progress};
 use crate::walked::Walked;
 use crate::{diagnosis, time, Answer, Stop};
 use std::io::{self, IsTerminal};
@@ -33,16 +33,10 @@ pub fn check(a: &Arguments) -> Result<Answer, Stop> {
     Ok(Answer::new(text, fields))
 }
 
-/// So many faults are told to a person; JSON has them all.
-const TOLD: usize = 20;
-
 fn not_sound(name: &str, faults: Vec<String>, readable: Vec<(usize, Client, Id)>) -> Answer {
     let mut text = format!("{name}: not sound\n");
-    for fault in faults.iter().take(TOLD) {
-        text += &format!("  {fault}\n");
-    }
-    if faults.len() > TOLD {
-        text += &format!("  and {} more; --json tells them all\n", faults.len() - TOLD);
+    for line in shortened(faults.clone()) {
+        text += &format!("  {line}\n");
     }
     if !readable.is_empty() {
         text += &format!(

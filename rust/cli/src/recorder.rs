@@ -5,9 +5,10 @@ use crate::image_file::{self, ImageFile};
 use crate::layout::{header, word};
 use crate::{time, Stop};
 use std::path::Path;
-use zolvortug::{Client, Id, Store, Tariff, Tick, BLOCK, MOST};
+use zolvortug::{series_block, Client, Id, Store, Tariff, Tick, BLOCK, MOST, SAMPLES, TAG};
 
 pub const BLOCKS: u32 = 32;
+/// Channel c stores series c.
 const CHANNELS: u32 = 3;
 /// Blocks that each channel stores. The first of each is kept until shortly after the last is stored, the others long.
 const ROUNDS: u32 = 6;
@@ -15,9 +16,6 @@ const BEGIN: &str = "2026-01-01T00:00:00Z";
 pub const BLOCK_TIME: u64 = 128_000;
 const SHORT: u64 = 7 * BLOCK_TIME;
 const LONG: u64 = 1000 * BLOCK_TIME;
-/// Samples of a block, each of 4 bytes, after a tag of 16.
-const SAMPLES: u32 = 128;
-const TAG: usize = 16;
 /// Picoseconds that the oscillator gains each sample, and the largest noise of one.
 pub const GAIN: i64 = 5;
 pub const NOISE: i64 = 2;
@@ -107,18 +105,12 @@ pub fn unforeseen(why: impl std::fmt::Debug) -> Stop {
     ))
 }
 
-/// A block of samples of the oscillator. Its tag has the series, the sequence and the number of samples.
+/// A block of samples of the oscillator, in a series.
 fn samples(series: u32, sequence: u32) -> [u8; BLOCK] {
-    let mut block = [0; BLOCK];
-    block[0..4].copy_from_slice(&series.to_le_bytes());
-    block[4..8].copy_from_slice(&sequence.to_le_bytes());
-    block[8] = SAMPLES as u8;
-    for i in 0..SAMPLES {
-        let place = sequence * SAMPLES + i;
+    let samples: [Option<i32>; SAMPLES] = std::array::from_fn(|i| {
+        let place = sequence * SAMPLES as u32 + i as u32;
         let noise = i64::from(place.wrapping_mul(2654435761) >> 16) % (2 * NOISE + 1) - NOISE;
-        let phase = (GAIN * i64::from(place) + noise) as i32;
-        let at = TAG + 4 * i as usize;
-        block[at..at + 4].copy_from_slice(&phase.to_le_bytes());
-    }
-    block
+        Some((GAIN * i64::from(place) + noise) as i32)
+    });
+    series_block(series, sequence, &samples).expect("small phases, and few blocks")
 }

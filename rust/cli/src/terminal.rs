@@ -1,4 +1,5 @@
 //! What a person sees at a terminal: colour, and a line of progress.
+use std::ffi::{c_int, c_ulong};
 use std::io::{self, IsTerminal, Write};
 use std::time::{Duration, Instant};
 
@@ -51,6 +52,44 @@ pub fn padded(text: &str, width: usize) -> String {
         within &= c != 'm';
     }
     format!("{text}{}", " ".repeat(width.saturating_sub(seen)))
+}
+
+/// How many signs a line has room for: what COLUMNS says, else the terminal, else 80.
+pub fn width() -> usize {
+    let said = std::env::var("COLUMNS").ok().and_then(|columns| columns.parse().ok());
+    said.or_else(columns).unwrap_or(80)
+}
+
+/// The columns of the terminal that standard output is.
+fn columns() -> Option<usize> {
+    #[repr(C)]
+    #[derive(Default)]
+    struct Size {
+        rows: u16,
+        columns: u16,
+        pixels: [u16; 2],
+    }
+    const GET_SIZE: c_ulong = 0x5413;
+    extern "C" {
+        fn ioctl(file: c_int, request: c_ulong, ...) -> c_int;
+    }
+    let mut size = Size::default();
+    // SAFETY: for this request Linux writes these eight bytes, and no others.
+    let told = io::stdout().is_terminal() && unsafe { ioctl(1, GET_SIZE, &mut size) } == 0;
+    (told && size.columns > 0).then_some(size.columns.into())
+}
+
+/// So many lines of a list are told to a person; JSON has them all.
+const TOLD: usize = 20;
+
+/// The first lines of a list, and how many more there are.
+pub fn shortened(mut lines: Vec<String>) -> Vec<String> {
+    let more = lines.len().saturating_sub(TOLD);
+    lines.truncate(TOLD);
+    if more > 0 {
+        lines.push(format!("and {more} more; --json tells them all"));
+    }
+    lines
 }
 
 /// A line on standard error that says how far a walk has come: where standard error is a terminal, and the walk takes

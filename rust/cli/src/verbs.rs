@@ -4,6 +4,7 @@ use crate::changing::{create, destroy, expire, format, replace, scavenge};
 use crate::demo::demo;
 use crate::help;
 use crate::reading::{check, count, ids, profile, read, status};
+use crate::series::series;
 use crate::{Answer, Stop};
 use std::ffi::OsString;
 
@@ -140,6 +141,13 @@ const OUT: Opt = opt(
     "a new file for the block's bytes; -o for short; without it standard output",
 );
 
+const SERIES: Opt = opt(
+    "series",
+    "S",
+    "the number of the series, with which its blocks' tags begin",
+);
+const SUMMARY: Opt = opt("summary", "", "leaves out the lines for the places");
+
 pub const VERBS: &[Verb] = &[
     Verb {
         name: "demo",
@@ -242,6 +250,23 @@ pub const VERBS: &[Verb] = &[
         more: "One id a line, in the order of the blocks. The file is read at one moment, and the walk goes over that.",
         example: "zolvortug ids store.img --client 3",
         run: ids,
+    },
+    Verb {
+        name: "series",
+        words: &["FILE"],
+        maybe: &[],
+        needed: &[CLIENT, SERIES],
+        optional: &[SUMMARY, JSON],
+        what: "gives a client's series place by place: phases, and where the gaps are",
+        more: "One line a place: its phase in picoseconds, or gap. Then, after #, how many there are, where the gaps\n\
+               lie, and a picture of them. It is free.\n\
+               A block belongs to the series whose number its tag begins with.\n\
+               Its tag is series (4 bytes), sequence (4, below 4096), number of samples (1, from 1 to 128), 7 zeros.\n\
+               Its data is 128 samples of 4 bytes, signed, each from -2^20 to 2^20; -2^31 marks one that was not\n\
+               taken, and slots after the last hold that mark. No two blocks have one sequence.\n\
+               Sample i of sequence q has place 128*q + i. A block that is not there is 128 gaps.",
+        example: "zolvortug demo demo.img\nzolvortug series demo.img --client 2 --series 2 --summary",
+        run: series,
     },
     Verb {
         name: "count",

@@ -2,7 +2,7 @@
 mod common;
 use common::Folder;
 use std::process::Command;
-use zolvortug::{Client, Id, Key, Refused, Report, Store, Tariff, Tick, MOST};
+use zolvortug::{series_block, Client, Id, Key, Refused, Report, Sample, Store, Tariff, Tick, MOST};
 use zolvortug_cli::tariff_file::parse;
 
 const MANUAL: &str = include_str!("../../../docs/MANUAL.md");
@@ -13,10 +13,20 @@ fn prices() -> Tariff {
     parse(include_str!("../../../examples/prices")).unwrap()
 }
 
-/// The manual's block of code in a language.
-fn code(language: &str) -> &str {
-    let (_, rest) = MANUAL.split_once(&format!("```{language}\n")).expect(language);
+/// The manual's block of code in a language, of a section.
+fn code(section: &str, language: &str) -> &'static str {
+    let (_, rest) = MANUAL.split_once(&format!("\n## {section}\n")).expect(section);
+    let section = rest.split("\n## ").next().expect("a section");
+    let (_, rest) = section.split_once(&format!("```{language}\n")).expect(language);
     rest.split_once("```\n").expect("an end").0
+}
+
+/// What stands in this file between two lines that say so.
+fn here(name: &str) -> &'static str {
+    let (_, rest) = HERE
+        .split_once(&format!("// The manual's Rust, {name}, between two lines.\n"))
+        .expect(name);
+    rest.split_once("// The end of it.").expect("an end").0
 }
 
 fn fresh(blocks: u32) -> Vec<u8> {
@@ -25,7 +35,7 @@ fn fresh(blocks: u32) -> Vec<u8> {
     image
 }
 
-// The manual's Rust, between two lines.
+// The manual's Rust, linking, between two lines.
 /// Lists a client's ids, then removes what has expired; how many blocks that was.
 fn tidy(image: &mut [u8], prices: Tariff, mut now: Tick) -> Result<usize, Refused> {
     let mut store = Store::new(image, prices);
@@ -45,21 +55,50 @@ fn tidy(image: &mut [u8], prices: Tariff, mut now: Tick) -> Result<usize, Refuse
 }
 // The end of it.
 
+// The manual's Rust, series, between two lines.
+/// Stores samples as a block of series 9, then reads the whole series; how many gaps it has.
+fn record(store: &mut Store<Vec<u8>>, sequence: u32, samples: &[Option<i32>], now: Tick) -> Result<usize, Report> {
+    let block = series_block(9, sequence, samples).ok_or(Report::BadTag)?;
+    store.create(Client(3), Tick(500), &block, now)?;
+    let mut gaps = 0;
+    for (place, sample) in store.series(Client(3), 9)?.enumerate() {
+        match sample {
+            Sample::Phase(phase) => println!("{place}: {phase} ps"),
+            Sample::Gap => gaps += 1,
+        }
+    }
+    Ok(gaps)
+}
+// The end of it.
+
 #[test]
 fn the_rust_works() {
-    let (_, rest) = HERE.split_once("// The manual's Rust, between two lines.\n").unwrap();
-    let (_, shown) = code("rust").split_once("\n\n").unwrap();
-    assert_eq!(shown, rest.split_once("// The end of it.").unwrap().0);
+    for (name, section) in [("linking", "Linking it"), ("series", "Series")] {
+        let (_, shown) = code(section, "rust").split_once("\n\n").unwrap();
+        assert_eq!(shown, here(name));
+    }
     let mut image = fresh(128);
     let mut store = Store::new(&mut image[..], prices());
     store.create(Client(3), Tick(5), &[0; 528], Tick(4)).unwrap();
     assert_eq!(tidy(&mut image, prices(), Tick(6)), Ok(1));
+    let mut store = Store::new(fresh(8), prices());
+    assert_eq!(record(&mut store, 1, &[Some(-5), None], Tick(4)), Ok(255));
+    assert_eq!(record(&mut store, 1, &[Some(5)], Tick(5)), Err(Report::SequenceTwice));
+    assert_eq!(record(&mut store, 4096, &[Some(5)], Tick(6)), Err(Report::BadTag));
 }
 
 #[test]
 fn the_c_works() {
+    let report_and_id = "report 0, charge 810\ndd8c40005e01c000\n";
+    let phases = "128 of 256: -5 ps\n130 of 256: 40 ps\n";
+    for (section, said) in [("Linking it", report_and_id), ("Series", phases)] {
+        run_c(code(section, "c"), said);
+    }
+}
+
+fn run_c(program: &str, said: &str) {
     let f = Folder::new();
-    std::fs::write(f.path("recorder.c"), code("c")).unwrap();
+    std::fs::write(f.path("recorder.c"), program).unwrap();
     let root = concat!(env!("CARGO_MANIFEST_DIR"), "/../..");
     let built = Command::new("cc")
         .args(["-std=c11", "-Wall", "-Wextra", "-Wpedantic", "-Werror"])
@@ -70,9 +109,27 @@ fn the_c_works() {
         .arg(f.path("recorder"))
         .status();
     assert!(built.unwrap().success());
-    f.shell("./recorder")
-        .ends(0)
-        .says("report 0, charge 810\ndd8c40005e01c000\n");
+    f.shell("timeout 20 ./recorder").ends(0).says(said);
+}
+
+/// The session with the demonstration's image: each command, and what it says.
+#[test]
+fn the_series_of_the_demonstration() {
+    let f = Folder::new();
+    let (_, session) = MANUAL.split_once("    $ zolvortug demo demo.img").expect("a session");
+    let session = format!("    $ zolvortug demo demo.img{}", session.split("\n\n").next().unwrap());
+    let lines: Vec<&str> = session.lines().map(str::trim_start).collect();
+    let commands = lines.iter().filter_map(|line| line.strip_prefix("$ "));
+    let script = commands.collect::<Vec<&str>>().join("\n");
+    let said: String = lines
+        .iter()
+        .filter(|line| !line.starts_with('$'))
+        .map(|line| format!("{line}\n"))
+        .collect();
+    f.shell(&format!("unset COLUMNS\n{script}")).ends(0).says(&said);
+    let kept = "The image is kept: try `zolvortug ids demo.img --client 2`,\n\
+                or `zolvortug series demo.img --client 2 --series 2`.\n";
+    assert!(String::from_utf8(f.bytes("story.txt")).unwrap().ends_with(kept));
 }
 
 /// The header shown byte by byte, and the other bytes that the call changed.

@@ -37,6 +37,25 @@ fn colours() {
     }
 }
 
+/// The picture of a series: phases in one colour, gaps in another.
+#[test]
+fn colours_of_a_series() {
+    let f = Folder::new();
+    f.run("demo i").ends(0);
+    let series = "zolvortug series i --client 2 --series 2 --summary";
+    let Some(said) = at_terminal(&f, &format!("COLUMNS=16 {series}")) else {
+        return;
+    };
+    let line = "[\x1b[31m..\x1b[0m\x1b[32m==========\x1b[0m]\r\n";
+    assert!(said.ends(0).out.contains(line));
+    let said = at_terminal(&f, &format!("COLUMNS=11 {series}")).unwrap().ends(0);
+    let line = "[\x1b[31m.\x1b[0m\x1b[1m-\x1b[0m\x1b[32m=====\x1b[0m]\r\n";
+    assert!(said.out.contains(line), "{said:?}");
+    let said = at_terminal(&f, &format!("unset COLUMNS; stty cols 16; {series}")).unwrap();
+    let line = "[\x1b[31m..\x1b[0m\x1b[32m==========\x1b[0m]\r\n";
+    assert!(said.ends(0).out.contains(line), "as wide as the terminal");
+}
+
 #[test]
 fn bytes_are_not_sent_to_a_terminal() {
     let f = Folder::new();

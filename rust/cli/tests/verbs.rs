@@ -76,7 +76,7 @@ fn answers_as_json() {
         .says(refused);
 }
 
-/// Every report that the command can meet, with its sentence.
+/// Every report that an operation can give the command, with its sentence; series.rs has the reader's.
 #[test]
 fn refusals() {
     let f = Folder::new();
@@ -217,7 +217,7 @@ fn wrongly_called() {
 fn examples_of_the_help_work() {
     let f = Folder::new();
     let verbs = f.verbs();
-    assert_eq!(verbs.len(), 13);
+    assert_eq!(verbs.len(), 14);
     let mut script = String::from("set -e\n");
     for verb in verbs {
         let help = f.run(&format!("help {verb}")).ends(0).out;

@@ -1,7 +1,7 @@
 //! A call with its inputs, an answer with every field an answer can have, and the one place that calls the library.
 use crate::reports::Report;
 use zolvortug::sys;
-pub use zolvortug::sys::Walk;
+pub use zolvortug::sys::{Place, Sampled, Walk};
 pub use zolvortug::Tariff;
 
 /// Times are ticks. Data that a call is given or gives, and its length, stand in the buffer beside the call.
@@ -211,6 +211,14 @@ fn lent(bytes: &mut [u8]) -> (*mut u8, usize) {
     }
 }
 
+/// The same, to be read alone.
+fn shown(bytes: &[u8]) -> (*const u8, usize) {
+    match bytes.len() {
+        0 => (std::ptr::null(), 0),
+        len => (bytes.as_ptr(), len),
+    }
+}
+
 /// The library's answer; it reads and writes the buffer and the image.
 pub fn library(call: &Call, t: &Tariff, buffer: &mut [u8], image: &mut [u8]) -> Answer {
     let t = *t;
@@ -258,4 +266,21 @@ pub fn walk_from(client: u32, count: u32) -> Walk {
 pub fn size(n: u32) -> usize {
     // SAFETY: a number goes in and a number comes out.
     unsafe { sys::zolvortug_size(n) }
+}
+
+/// The library's opening of a reader of a series.
+#[inline]
+pub fn series_open(client: u32, series: u32, image: &[u8]) -> Place {
+    let (i, i_len) = shown(image);
+    // SAFETY: a pointer with its own length.
+    unsafe { sys::zolvortug_series_open(client, series, i, i_len) }
+}
+
+/// The library's step of a reader, which updates the nine words of its place.
+#[inline]
+pub fn series_step(place: &mut Place, image: &[u8]) -> Sampled {
+    let (i, i_len) = shown(image);
+    let words: *mut u32 = (place as *mut Place).cast();
+    // SAFETY: as for the opening; a place is nine words.
+    unsafe { sys::zolvortug_series_step(words, Place::WORDS, i, i_len) }
 }

@@ -15,8 +15,8 @@ struct Image<'a> {
 }
 
 /// The numbers of a used header.
-struct Header {
-    owner: usize,
+pub struct Header {
+    pub owner: usize,
     id: u64,
     created: u64,
     expires: u64,
@@ -43,7 +43,7 @@ fn refuse_if(applies: bool, report: Report) -> Result<(), Report> {
 }
 
 /// N and the clock, where length and trailer are right.
-fn trailer(bytes: &[u8]) -> Option<(usize, u64)> {
+pub fn trailer(bytes: &[u8]) -> Option<(usize, u64)> {
     let t = &bytes[bytes.len().checked_sub(512)?..];
     let (n, clock) = (u64::from(get4(t, 0)), get8(t, 24));
     let blocks = n / 8 + n + 3;
@@ -57,6 +57,33 @@ fn trailer(bytes: &[u8]) -> Option<(usize, u64)> {
         && all_zero(&t[32..508])
         && t[508..] == [0x50, 0x52, 0x36, 0x32];
     right.then_some((n as usize, clock))
+}
+
+fn is_free(bytes: &[u8], n: usize, bit: usize) -> bool {
+    bytes[64 * n + bit / 8] & (1 << (bit % 8)) != 0
+}
+
+/// Header b of an image of n blocks where it is good: none where it is unused, its numbers where it is used.
+pub fn good(bytes: &[u8], n: usize, clock: u64, b: usize) -> Result<Option<Header>, Report> {
+    let raw = &bytes[64 * b..64 * b + 64];
+    let (free, h) = (is_free(bytes, n, b), Header::of(raw));
+    if all_zero(raw) && free {
+        return Ok(None);
+    }
+    let used = raw[0] == 1
+        && all_zero(&raw[2..8])
+        && all_zero(&raw[48..])
+        && h.owner <= 63
+        && (1..=clock).contains(&h.created)
+        && h.expires >= 1
+        && h.expires < 1 << 40
+        && h.id == made(h.created, b as u32)
+        && !free;
+    if used {
+        Ok(Some(h))
+    } else {
+        Err(Report::Damaged)
+    }
 }
 
 impl<'a> Image<'a> {
@@ -82,7 +109,7 @@ impl<'a> Image<'a> {
     }
 
     fn is_free(&self, bit: usize) -> bool {
-        self.bytes[self.map_at() + bit / 8] & (1 << (bit % 8)) != 0
+        is_free(self.bytes, self.n, bit)
     }
 
     fn turn_bit(&mut self, bit: usize) {
@@ -102,27 +129,8 @@ impl<'a> Image<'a> {
         self.set8(self.bytes.len() - 512 + 24, now);
     }
 
-    /// Header b where it is good: none where it is unused, its numbers where it is used.
     fn good(&self, b: usize) -> Result<Option<Header>, Report> {
-        let raw = &self.bytes[64 * b..64 * b + 64];
-        let (free, h) = (self.is_free(b), Header::of(raw));
-        if all_zero(raw) && free {
-            return Ok(None);
-        }
-        let used = raw[0] == 1
-            && all_zero(&raw[2..8])
-            && all_zero(&raw[48..])
-            && h.owner <= 63
-            && (1..=self.clock).contains(&h.created)
-            && h.expires >= 1
-            && h.expires < 1 << 40
-            && h.id == made(h.created, b as u32)
-            && !free;
-        if used {
-            Ok(Some(h))
-        } else {
-            Err(Report::Damaged)
-        }
+        good(self.bytes, self.n, self.clock, b)
     }
 
     /// The used header with this id.

@@ -22,10 +22,10 @@ const GUARD_BYTE: u8 = 0xa5;
 
 /// Bytes lent to the library, at an odd address, with guard bytes on both sides.
 #[derive(Default)]
-struct Lent(Vec<u8>);
+pub struct Lent(Vec<u8>);
 
 impl Lent {
-    fn set(&mut self, bytes: &[u8]) {
+    pub fn set(&mut self, bytes: &[u8]) {
         self.0.clear();
         self.0.extend([GUARD_BYTE; GUARD]);
         self.0.extend(bytes);
@@ -37,11 +37,11 @@ impl Lent {
         &mut self.0[GUARD..end]
     }
 
-    fn get(&self) -> &[u8] {
+    pub fn get(&self) -> &[u8] {
         &self.0[GUARD..self.0.len() - GUARD]
     }
 
-    fn guarded(&self) -> bool {
+    pub fn guarded(&self) -> bool {
         let (before, after) = (&self.0[..GUARD], &self.0[self.0.len() - GUARD..]);
         before == [GUARD_BYTE; GUARD] && after == [GUARD_BYTE; GUARD]
     }

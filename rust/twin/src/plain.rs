@@ -9,7 +9,7 @@ const LAST: usize = 65535;
 /// What a call gives and costs, or why it is refused.
 pub type Plain<T> = Result<(T, i64), Report>;
 
-fn u32_at(s: &[u8], at: usize) -> u32 {
+pub fn u32_at(s: &[u8], at: usize) -> u32 {
     u32::from_le_bytes(s[at..at + 4].try_into().unwrap())
 }
 
@@ -22,7 +22,7 @@ fn put(s: &mut [u8], at: usize, v: u64) {
 }
 
 /// All bytes are looked at, since a loop that stops early does not vectorize.
-fn is_zero(s: &[u8]) -> bool {
+pub fn is_zero(s: &[u8]) -> bool {
     s.iter().fold(0, |a, x| a | x) == 0
 }
 
@@ -90,7 +90,7 @@ fn trailer(img: &[u8]) -> Result<(usize, u64), Report> {
 }
 
 #[inline(always)]
-fn reading(client: u32, img: &[u8]) -> Result<(usize, u64), Report> {
+pub fn reading(client: u32, img: &[u8]) -> Result<(usize, u64), Report> {
     let known = trailer(img)?;
     if client > 63 {
         return Err(Report::BadUser);
@@ -110,12 +110,12 @@ fn changing(client: u32, expiry: u64, now: u64, img: &[u8]) -> Result<(usize, u6
     Ok((n, clock))
 }
 
-fn header(img: &[u8], b: usize) -> &[u8; 64] {
+pub fn header(img: &[u8], b: usize) -> &[u8; 64] {
     img[64 * b..64 * b + 64].try_into().unwrap()
 }
 
 #[inline(always)]
-fn used_right(h: &[u8; 64], clock: u64, b: usize) -> bool {
+pub fn used_right(h: &[u8; 64], clock: u64, b: usize) -> bool {
     let (created, expires) = (u64_at(h, 16), u64_at(h, 24));
     h[0] == 1
         && h[1] <= 63

@@ -31,6 +31,12 @@ impl Random {
         from[self.below(from.len() as u64) as usize]
     }
 
+    pub fn shuffle<T>(&mut self, all: &mut [T]) {
+        for i in (1..all.len()).rev() {
+            all.swap(i, self.below(i as u64 + 1) as usize);
+        }
+    }
+
     pub fn fill(&mut self, bytes: &mut [u8]) {
         for word in bytes.chunks_mut(8) {
             let random = self.number().to_le_bytes();

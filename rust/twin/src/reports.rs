@@ -1,4 +1,4 @@
-//! Document 01's reports, in the order they are tested, and which of them each operation can give.
+//! The reports of document 01 and of W1, in the order they are tested, and which of them each operation can give.
 
 #[derive(Clone, Copy, Debug, PartialEq, Eq, PartialOrd, Ord)]
 #[repr(u8)]
@@ -16,6 +16,9 @@ pub enum Report {
     NoSuchBlock,
     NotOwner,
     NoSpace,
+    NoSeries,
+    BadTag,
+    SequenceTwice,
 }
 
 /// The ten operations, the walk's step and Format, each with the reports that the document's table lets it give.
@@ -34,3 +37,6 @@ pub const POSSIBLE: [(&str, &[u8]); 12] = [
     ("Step", &[0, 1, 2, 6, 7, 8, 9]),
     ("Format", &[0, 1]),
 ];
+
+/// The same for the opening of a reader, from W1.
+pub const OF_OPENING: [u32; 7] = [0, 1, 2, 9, 13, 14, 15];

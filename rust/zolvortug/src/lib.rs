@@ -2,7 +2,7 @@
 //!
 //! A channel of a recorder is a [`Client`]. It stores blocks of 528 bytes in an image that the caller lends, is given
 //! an [`Id`] for each, and lists its ids by a [`Walk`], which names every block that stands throughout exactly once,
-//! whatever falls between its steps.
+//! whatever falls between its steps. A [`Reader`] gives the samples of its series in order, gaps marked.
 //!
 //! ```
 //! use zolvortug::{Client, Store, Tariff, Tick};
@@ -17,7 +17,10 @@
 //! ```
 #![no_std]
 
+mod series;
 pub mod sys;
+
+pub use series::{series_block, Reader, Sample, Tag, LARGEST, NOT_TAKEN, SAMPLES, SEQUENCES, TAG};
 
 /// The ten prices, the error price, and the rate of a block for a tick.
 #[repr(C)]
@@ -107,11 +110,17 @@ pub enum Report {
     NotOwner,
     /// No block is free.
     NoSpace,
+    /// No block of the client belongs to the series.
+    NoSeries,
+    /// A tag or a sample of the series breaks its rules.
+    BadTag,
+    /// Two blocks of the series have one sequence.
+    SequenceTwice,
 }
 
 impl Report {
     /// All of them, in this order.
-    pub const ALL: [Report; 12] = [
+    pub const ALL: [Report; 15] = [
         Report::BadImage,
         Report::BadUser,
         Report::BadTime,
@@ -124,13 +133,16 @@ impl Report {
         Report::NoSuchBlock,
         Report::NotOwner,
         Report::NoSpace,
+        Report::NoSeries,
+        Report::BadTag,
+        Report::SequenceTwice,
     ];
 
     pub fn number(self) -> u8 {
         self as u8
     }
 
-    /// 0 is success. The library gives no number above 12; that is proved.
+    /// 0 is success. The library gives no number above 15; that is proved.
     fn of(number: u8) -> Option<Report> {
         Some(Self::ALL[usize::from(number).checked_sub(1)?])
     }
@@ -141,6 +153,13 @@ impl Report {
 pub struct Refused {
     pub report: Report,
     pub charge: Money,
+}
+
+/// So that `?` passes on a refusal where an opened reader's report is passed on too.
+impl From<Refused> for Report {
+    fn from(no: Refused) -> Report {
+        no.report
+    }
 }
 
 /// What a call gave, and what it costs.
@@ -293,6 +312,11 @@ impl<M: AsRef<[u8]>> Store<M> {
     pub fn walk(&self, client: Client, count: u32) -> Walk {
         // SAFETY: numbers go in and a record comes out.
         Walk(unsafe { sys::zolvortug_walk_from(client.0, count) })
+    }
+
+    /// A reader of the client's series from its first place: [`Reader::open`] on the image. It is free.
+    pub fn series(&self, client: Client, series: u32) -> Result<Reader<'_>, Report> {
+        Reader::open(self.image(), client, series)
     }
 }
 

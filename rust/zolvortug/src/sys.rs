@@ -72,6 +72,42 @@ pub struct Stepped {
     pub report: u8,
 }
 
+/// Where a reader of a series stands: nine words, which a step takes as such. `at` is the next place and `end` the
+/// number of places.
+#[repr(C)]
+#[derive(Clone, Copy, Debug, PartialEq, Eq)]
+pub struct Place {
+    pub n: u32,
+    pub client: u32,
+    pub series: u32,
+    pub block: u32,
+    pub sequence: u32,
+    pub slot: u32,
+    pub at: u32,
+    pub end: u32,
+    pub report: u32,
+}
+
+/// What a step of a reader gives. `answer` is 0 where the series has ended, 1 for a phase and 2 for a gap; `phase` is a
+/// NaN but where it is 1.
+#[repr(C)]
+#[derive(Clone, Copy, Debug, PartialEq)]
+pub struct Sampled {
+    pub phase: f64,
+    pub answer: u8,
+}
+
+impl Place {
+    pub const WORDS: usize = 9;
+
+    /// A step, which updates the place where it stands.
+    pub fn step(&mut self, img: &[u8]) -> Sampled {
+        let words: *mut u32 = (self as *mut Place).cast();
+        // SAFETY: a place is nine words, and each pointer goes with its own length.
+        unsafe { zolvortug_series_step(words, Place::WORDS, img.as_ptr(), img.len()) }
+    }
+}
+
 extern "C" {
     pub fn zolvortug_size(n: u32) -> usize;
     pub fn zolvortug_format(n: u32, img: *mut u8, img_len: usize) -> u8;
@@ -139,4 +175,6 @@ extern "C" {
     ) -> Listed;
     pub fn zolvortug_walk_from(client: u32, count: u32) -> Walk;
     pub fn zolvortug_step(t: Tariff, w: Walk, ids: *mut u8, ids_len: usize, img: *const u8, img_len: usize) -> Stepped;
+    pub fn zolvortug_series_open(client: u32, series: u32, img: *const u8, img_len: usize) -> Place;
+    pub fn zolvortug_series_step(p: *mut u32, p_len: usize, img: *const u8, img_len: usize) -> Sampled;
 }

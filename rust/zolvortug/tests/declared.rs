@@ -87,6 +87,7 @@ impl Types {
             "u64" => "uint64_t".into(),
             "i64" => "int64_t".into(),
             "usize" => "size_t".into(),
+            "f64" => "double".into(),
             "bool" => "bool".into(),
             name => format!("zolvortug_{}", name.to_lowercase()),
         }
@@ -97,12 +98,16 @@ impl Types {
         let (mut c, mut rust) = (vec![], vec![]);
         for input in list.split(',').map(str::trim).filter(|i| !i.is_empty()) {
             let (name, kind) = input.split_once(": ").expect("a type");
-            match (kind, kind.strip_prefix("&mut [u8]"), kind.strip_prefix("&[u8]")) {
-                (_, Some(_), _) => {
+            match kind {
+                "&mut [u8]" => {
                     c.push(format!("uint8_t *{name}, size_t {name}_len"));
                     rust.push(format!("{name}: *mut u8, {name}_len: usize"));
                 }
-                (_, _, Some(_)) => {
+                "&mut [u32]" => {
+                    c.push(format!("uint32_t *{name}, size_t {name}_len"));
+                    rust.push(format!("{name}: *mut u32, {name}_len: usize"));
+                }
+                "&[u8]" => {
                     c.push(format!("const uint8_t *{name}, size_t {name}_len"));
                     rust.push(format!("{name}: *const u8, {name}_len: usize"));
                 }
@@ -145,7 +150,7 @@ fn declarations_are_the_source_s() {
         plain(&text("rust/zolvortug/src/sys.rs")),
     );
     let rust = sys.clone() + &plain(&text("rust/zolvortug/src/lib.rs"));
-    assert_eq!(exports.len(), 15, "exported functions");
+    assert_eq!(exports.len(), 17, "exported functions");
     for (name, list, result) in &exports {
         let (c, r) = types.inputs(list);
         let c = format!("{} {name}({c});", types.in_c(result));
@@ -211,5 +216,25 @@ fn reports_are_the_source_s() {
         }
         seen += 1;
     }
-    assert_eq!(seen, 13, "reports");
+    assert_eq!(seen, 16, "reports");
+}
+
+/// The numbers that the header and Rust both name, and what a reader's step answers.
+#[test]
+fn constants_are_alike() {
+    let header = plain(&text("include/zolvortug.h"));
+    for (name, value) in [
+        ("BLOCK", format!("{}u", zolvortug::BLOCK)),
+        ("MOST", format!("{}u", zolvortug::MOST)),
+        ("SAMPLES", format!("{}u", zolvortug::SAMPLES)),
+        ("SEQUENCES", format!("{}u", zolvortug::SEQUENCES)),
+        ("LARGEST", zolvortug::LARGEST.to_string()),
+        ("NOT_TAKEN", "INT32_MIN".into()),
+    ] {
+        let line = format!("#define ZOLVORTUG_{name} {value} ");
+        assert!(header.contains(&line), "not in the header: {line}");
+    }
+    assert_eq!(zolvortug::NOT_TAKEN, i32::MIN);
+    let answers = "enum zolvortug_answer { ZOLVORTUG_ENDED = 0, ZOLVORTUG_PHASE = 1, ZOLVORTUG_GAP = 2 };";
+    assert!(header.contains(answers));
 }

@@ -1,11 +1,15 @@
 //! Times of the proved library beside plain safe Rust at N = 4,096, as a table. The two take turns on images of their
-//! own, which are compared byte for byte after each turn.
+//! own, which are compared byte for byte after each turn; and read the same series, of which they give the same sums.
 //!
 //!     rt staticlib zolvortug
 //!     cargo run --release --manifest-path rust/Cargo.toml --target-dir target/rust --bin times
 use std::hint::black_box;
 use std::time::Instant;
+use twin::calls::{series_open, series_step};
 use twin::plain;
+use twin::plain_series::{self, Answer};
+use twin::random::Random;
+use twin::recordings::{image_of, Written};
 use zolvortug::{Client, Id, Key, Store, Tariff, Tick};
 
 const N: usize = 4096;
@@ -38,10 +42,18 @@ trait Engine {
     fn get_ids(img: &[u8], client: u32, key: u32, ids: &mut [u8]) -> usize;
     fn scavenge(img: &mut [u8], key: u32, now: u64) -> usize;
     fn profile(img: &[u8], key: u32, buffer: &mut [u8]) -> usize;
+    /// Opens a reader of the series that is timed, and gives the number of its places.
+    fn open(img: &[u8]) -> u64;
+    /// Steps such a reader to its end, and notes the time a step.
+    fn steps(img: &[u8], t: &mut Turn, row: usize);
 }
 
 struct Proved;
 struct Plain;
+
+/// The client and the series that are read.
+const CHANNEL: u32 = 1;
+const SERIES: u32 = 7;
 
 fn store<M: AsRef<[u8]>>(img: M) -> Store<M> {
     Store::new(img, PRICES)
@@ -108,6 +120,23 @@ impl Engine for Proved {
             .value
             .count
     }
+    fn open(img: &[u8]) -> u64 {
+        series_open(CHANNEL, SERIES, img).end.into()
+    }
+    fn steps(img: &[u8], t: &mut Turn, row: usize) {
+        let mut place = series_open(CHANNEL, SERIES, img);
+        t.row(row, place.end as usize, || {
+            let (mut sum, mut gaps) = (0.0, 0);
+            loop {
+                let sampled = series_step(&mut place, img);
+                match sampled.answer {
+                    0 => return summed(sum, gaps),
+                    1 => sum += sampled.phase,
+                    _ => gaps += 1,
+                }
+            }
+        });
+    }
 }
 
 impl Engine for Plain {
@@ -150,9 +179,36 @@ impl Engine for Plain {
     fn profile(img: &[u8], key: u32, buffer: &mut [u8]) -> usize {
         plain::profile(&PRICES, 0, key as usize, buffer, img).unwrap().0 .0
     }
+    fn open(img: &[u8]) -> u64 {
+        let mut table = [0; 4096];
+        let reader = plain_series::open(CHANNEL, SERIES, img, &mut table);
+        reader.expect("a series").end() as u64
+    }
+    fn steps(img: &[u8], t: &mut Turn, row: usize) {
+        let mut table = [0; 4096];
+        let reader = plain_series::open(CHANNEL, SERIES, img, &mut table);
+        let mut reader = reader.expect("a series");
+        t.row(row, reader.end(), || {
+            let (mut sum, mut gaps) = (0.0, 0);
+            loop {
+                match reader.step() {
+                    Answer::Ended => return summed(sum, gaps),
+                    Answer::Phase(phase) => sum += phase,
+                    Answer::Gap => gaps += 1,
+                }
+            }
+        });
+    }
 }
 
-const ROWS: [&str; 16] = [
+/// A whole number below 2^53 and a number of gaps, as one.
+fn summed(sum: f64, gaps: u64) -> u64 {
+    (sum as i64 as u64).wrapping_mul(31).wrapping_add(gaps)
+}
+
+/// Rows from this one on are of readers, an opening and a step for each recording.
+const READERS: usize = 16;
+const ROWS: [&str; READERS + 10] = [
     "Format",
     "Create, filling the store",
     "Check, full",
@@ -169,6 +225,16 @@ const ROWS: [&str; 16] = [
     "GetIds, 64 headers, 64 named",
     "Scavenge, 64 removed",
     "walk of 4,096 headers",
+    "open a series, 4,096 blocks in order",
+    "a sample of it",
+    "open a series, in reverse",
+    "a sample of it",
+    "open a series, shuffled",
+    "a sample of it",
+    "open a series, one sequence in eight there",
+    "a sample of it",
+    "open a series, one of three channels in turn",
+    "a sample of it",
 ];
 
 /// Nanoseconds of each row in one turn, and the sum of what the calls gave.
@@ -193,6 +259,39 @@ fn shuffled(seed: &mut u64) -> Vec<usize> {
         order.swap(i, (*seed >> 33) as usize % (i + 1));
     }
     order
+}
+
+/// The images whose series are read. Each has N blocks, and one sample in 100 is marked.
+fn recordings() -> [Vec<u8>; 5] {
+    let (mut random, last) = (Random::new(1), N as u32 - 1);
+    let mut order: Vec<u32> = (0..=last).collect();
+    random.shuffle(&mut order);
+    let mut image = |block: &dyn Fn(u32) -> (u32, u32)| {
+        let mut samples = || match random.one_in(100) {
+            true => i32::MIN,
+            false => random.block(1 << 21) as i32 - (1 << 20),
+        };
+        let written = (0..=last).map(block).map(|(owner, sequence)| {
+            let samples = [(); 128].map(|()| samples());
+            Written::full(owner, SERIES, sequence, samples)
+        });
+        image_of(N as u32, &written.collect::<Vec<_>>())
+    };
+    [
+        image(&|b| (CHANNEL, b)),
+        image(&|b| (CHANNEL, last - b)),
+        image(&|b| (CHANNEL, order[b as usize])),
+        image(&|b| (if b % 8 == 0 { CHANNEL } else { CHANNEL + 1 }, b)),
+        image(&|b| (CHANNEL + b % 3, b / 3)),
+    ]
+}
+
+fn read_series<E: Engine>(recordings: &[Vec<u8>], t: &mut Turn) {
+    for (i, img) in recordings.iter().enumerate() {
+        let row = READERS + 2 * i;
+        t.row(row, 8, || (0..8).map(|_| E::open(black_box(img))).sum());
+        E::steps(img, t, row + 1);
+    }
 }
 
 fn turn<E: Engine>(img: &mut [u8], seed: &mut u64) -> Turn {
@@ -273,6 +372,14 @@ fn turn<E: Engine>(img: &mut [u8], seed: &mut u64) -> Turn {
     t
 }
 
+/// A time, with its fraction where it is short.
+fn ns(time: f64) -> String {
+    match time < 100.0 {
+        true => format!("{time:.2}"),
+        false => format!("{time:.0}"),
+    }
+}
+
 /// The least and the median.
 fn two(turns: &[Turn], row: usize) -> (f64, f64) {
     let mut times: Vec<f64> = turns.iter().map(|t| t.times[row]).collect();
@@ -286,11 +393,14 @@ fn main() {
         .map_or(101, |a| a.parse().expect("a number of turns"));
     let (mut x, mut y) = (vec![0; plain::size_of(N)], vec![0; plain::size_of(N)]);
     let (mut s, mut u) = (1, 1);
+    let recordings = recordings();
     let (mut proved, mut plain) = (vec![], vec![]);
     for _ in 0..turns {
         plain.push(turn::<Plain>(&mut x, &mut s));
         proved.push(turn::<Proved>(&mut y, &mut u));
         assert!(x == y, "the images differ");
+        read_series::<Plain>(&recordings, plain.last_mut().unwrap());
+        read_series::<Proved>(&recordings, proved.last_mut().unwrap());
         assert_eq!(
             plain.last().unwrap().sum,
             proved.last().unwrap().sum,
@@ -301,6 +411,6 @@ fn main() {
     println!("|---|---|---|---|---|");
     for (row, name) in ROWS.iter().enumerate() {
         let ((a, b), (c, d)) = (two(&plain, row), two(&proved, row));
-        println!("| {name} | {a:.0} | {c:.0} | {:.2} | {:.2} |", c / a, d / b);
+        println!("| {name} | {} | {} | {:.2} | {:.2} |", ns(a), ns(c), c / a, d / b);
     }
 }

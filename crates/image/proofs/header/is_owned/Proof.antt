@@ -1,12 +1,12 @@
--- `keys::visit::is_owned` meets its contract.
+-- `image::header::is_owned` meets its contract.
 -- Assumes nothing.
 use mathlib.Core.Path.{sym, ap, _∙_}
 use borrow.Author.Tests.{not-true, not-false}
 use Rattle.kinds.specs.declared.User.{User}
-use Rattle.keys.proofs.Visits.{owned-not, owned-by}
+use Rattle.image.proofs.Lent.{owned-not, owned-by}
 use borrow.Author.Needs.{needs}
-use Rattle.keys.proofs.visit.is_owned.Statement.{statement}
-use Rattle.keys.proofs.visit.is_owned.Tie as tie
+use Rattle.image.proofs.header.is_owned.Statement.{statement}
+use Rattle.image.proofs.header.is_owned.Tie as tie
 
 returns : tie.Need-returns
 returns c = owned-not _ _ _ (sym (c .before .is-used .ensures) ∙ not-true _ (c .if1 .taken))

@@ -1,0 +1,4 @@
+pub mod Samples
+pub mod Firsts
+pub mod Members
+pub mod Gives

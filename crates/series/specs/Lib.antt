@@ -1,0 +1,4 @@
+pub mod Sample
+pub mod Series
+pub mod Reader
+pub mod Gives
