@@ -1,1 +1,4 @@
 // Document 01's fourteen calls, proved as one table under one statement. No function.
+
+#![tactic(auto)]
+

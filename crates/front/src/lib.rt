@@ -1,4 +1,7 @@
 // The refusals that operations have in front, and what a refusal answers.
+
+#![tactic(auto)]
+
 ghost use Rattle.std.specs.Prelude.{◌≡◌};
 ghost use Rattle.kinds.specs.declared.Report.TheVariants.{Success};
 ghost use Rattle.promise.specs.Refusals.{lowest, refusal};
@@ -12,7 +15,7 @@ use kinds::{Money, Receipt, Report, Tick, User};
 use tariff::Tariff;
 
 // How the tests in front end: with a report, or with the trailer's N and clock.
-#[derive(Drop)]
+#[derive(Clone, Copy)]
 pub enum Front {
     Shut(Report),
     Open { n: usize, clock: Tick },

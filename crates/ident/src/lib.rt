@@ -1,4 +1,7 @@
 // Identifiers: a time and a block number, disguised by four rounds, and undone.
+
+#![tactic(auto)]
+
 ghost use Rattle.std.specs.Prelude.{◌≡◌, ◌<◌, ◌^◌};
 ghost use Rattle.kinds.specs.Kinds.{ident};
 ghost use Rattle.ident.specs.Ident.{round_of, unround_of, disguised, undone, id_of, shape_of};
@@ -63,7 +66,7 @@ pub fn make(time: Tick, b: BlockNum) -> Id
 }
 
 // Whether a number is shaped as an id, and of which block.
-#[derive(Drop)]
+#[derive(Clone, Copy)]
 pub enum Shape {
     Unshaped,
     Shaped(BlockNum),

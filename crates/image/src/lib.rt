@@ -1,5 +1,8 @@
 // The image in code: its trailer, headers, map, counts and data, and the two entries that are free of charge, Format
 // and Check.
+
+#![tactic(auto)]
+
 ghost use Rattle.std.specs.Prelude.{◌≡◌, ◌&&◌};
 
 pub mod counts;

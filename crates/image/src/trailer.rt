@@ -15,7 +15,7 @@ use kinds::Tick;
 use kinds::limits::{END_OF_TIME, LEAST_BLOCKS, MOST_BLOCKS};
 
 // What an image's trailer says, where it is right.
-#[derive(Drop)]
+#[derive(Clone, Copy)]
 pub enum Trailer {
     Bad,
     Right { n: usize, clock: Tick },

@@ -1,4 +1,7 @@
 // The three key-linked operations: GetIds, Scavenge and Profile. Each decides its report before it writes a byte.
+
+#![tactic(auto)]
+
 ghost use Rattle.std.specs.Prelude.{◌≡◌, ◌-◌, ◌≤◌, ◌<◌};
 ghost use Rattle.run.specs.Run as Run;
 ghost use Rattle.promise.specs.Keys.{key_at};

@@ -12,7 +12,7 @@ use kinds::limits::MOST_IDS;
 use kinds::{BlockNum, Tick, User};
 
 // How many headers were visited, all of them good; or that one was not.
-#[derive(Drop)]
+#[derive(Clone, Copy)]
 pub(crate) enum Visited {
     Good(usize),
     Bad,

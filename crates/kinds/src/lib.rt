@@ -1,4 +1,7 @@
 // The given sets of the monograph as types that are never mixed, the reports, and the answer of each operation.
+
+#![tactic(auto)]
+
 ghost use Rattle.std.specs.Prelude.{◌≡◌};
 ghost use Rattle.kinds.specs.Report.{number_of};
 
@@ -6,30 +9,30 @@ pub mod limits;
 
 // A time, in ticks of 1 ms.
 #[repr(C)]
-#[derive(Drop)]
+#[derive(Clone, Copy)]
 pub struct Tick(pub u64);
 
 // An amount, negative where it is given back.
 #[repr(C)]
-#[derive(Drop)]
+#[derive(Clone, Copy)]
 pub struct Money(pub i64);
 
 // A client's number.
 #[repr(C)]
-#[derive(Drop)]
+#[derive(Clone, Copy)]
 pub struct User(pub u32);
 
 // A service block's number.
-#[derive(Drop)]
+#[derive(Clone, Copy)]
 pub struct BlockNum(pub u32);
 
 // A block's identifier. Zero is NullId.
 #[repr(C)]
-#[derive(Drop)]
+#[derive(Clone, Copy)]
 pub struct Id(pub u64);
 
 // What a call reports, in the order in which the reports are tested.
-#[derive(Drop)]
+#[derive(Clone, Copy)]
 pub enum Report {
     Success,
     BadImage,
@@ -74,26 +77,26 @@ pub fn number(r: Report) -> u8
 }
 
 // What every operation gives: how it ended, and what it costs.
-#[derive(Drop)]
+#[derive(Clone, Copy)]
 pub struct Receipt {
     pub report: Report,
     pub charge: Money,
 }
 
 // The answer of each operation: the receipt, then its results in the monograph's order.
-#[derive(Drop)]
+#[derive(Clone, Copy)]
 pub struct CreateAnswer {
     pub receipt: Receipt,
     pub id: Id,
 }
 
 // The data goes to the lent buffer.
-#[derive(Drop)]
+#[derive(Clone, Copy)]
 pub struct ReadAnswer {
     pub receipt: Receipt,
 }
 
-#[derive(Drop)]
+#[derive(Clone, Copy)]
 pub struct StatusAnswer {
     pub receipt: Receipt,
     pub owner: User,
@@ -101,37 +104,37 @@ pub struct StatusAnswer {
     pub expires: Tick,
 }
 
-#[derive(Drop)]
+#[derive(Clone, Copy)]
 pub struct DestroyAnswer {
     pub receipt: Receipt,
 }
 
-#[derive(Drop)]
+#[derive(Clone, Copy)]
 pub struct ReplaceAnswer {
     pub receipt: Receipt,
     pub id: Id,
 }
 
-#[derive(Drop)]
+#[derive(Clone, Copy)]
 pub struct SetExpiryAnswer {
     pub receipt: Receipt,
 }
 
 // The ids go to the lent buffer; `entries` is their number.
-#[derive(Drop)]
+#[derive(Clone, Copy)]
 pub struct GetIdsAnswer {
     pub receipt: Receipt,
     pub key: u32,
     pub entries: u32,
 }
 
-#[derive(Drop)]
+#[derive(Clone, Copy)]
 pub struct GetCountAnswer {
     pub receipt: Receipt,
     pub count: u32,
 }
 
-#[derive(Drop)]
+#[derive(Clone, Copy)]
 pub struct ScavengeAnswer {
     pub receipt: Receipt,
     pub key: u32,
@@ -139,7 +142,7 @@ pub struct ScavengeAnswer {
 }
 
 // The entries go to the lent buffer; `entries` is their number.
-#[derive(Drop)]
+#[derive(Clone, Copy)]
 pub struct ProfileAnswer {
     pub receipt: Receipt,
     pub key: u32,
@@ -149,7 +152,7 @@ pub struct ProfileAnswer {
 // A walk over a client's ids, kept by its caller: how many ids a step may name, the key to go on with, and whether the
 // end key came.
 #[repr(C)]
-#[derive(Drop)]
+#[derive(Clone, Copy)]
 pub struct Walk {
     pub client: User,
     pub count: u32,

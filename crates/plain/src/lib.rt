@@ -1,1 +1,4 @@
 // Facts of numbers and tests that proofs share. No function.
+
+#![tactic(auto)]
+

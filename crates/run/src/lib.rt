@@ -1,1 +1,3 @@
 // Runs of block numbers under a test: definitions and laws. No function.
+
+#![tactic(auto)]

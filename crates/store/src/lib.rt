@@ -1,5 +1,8 @@
 // The seven operations on one block. Each reads and decides first; where no row of document 01's table applies, one
 // function does the stores and nothing else, in the order trailer, data, header, map, count.
+
+#![tactic(auto)]
+
 ghost use Rattle.std.specs.Prelude.{◌≡◌};
 ghost use Rattle.kinds.specs.Kinds.{tick};
 ghost use Rattle.promise.specs.Header.{later_of};

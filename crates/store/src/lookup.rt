@@ -13,7 +13,7 @@ use image::layout::HEADER;
 use kinds::{BlockNum, Id, Report, Tick, User};
 
 // What an id leads to: no block, as it is not shaped or not there; a header that is not good; a block.
-#[derive(Drop)]
+#[derive(Clone, Copy)]
 pub(crate) enum Lookup {
     Missing,
     Broken,
@@ -21,7 +21,7 @@ pub(crate) enum Lookup {
 }
 
 // How all tests end: with a report, or with N and the block that the operation is about.
-#[derive(Drop)]
+#[derive(Clone, Copy)]
 pub(crate) enum Sought {
     Refused(Report),
     Found { n: usize, b: BlockNum },

@@ -1,4 +1,7 @@
 // What each operation costs: a price, and for four of them the storage that is paid for or given back.
+
+#![tactic(auto)]
+
 ghost use Rattle.std.specs.Prelude.{◌≡◌, ◌*◌, ◌<◌, ◌^◌, pos};
 ghost use Rattle.kinds.specs.Kinds.{money};
 ghost use Rattle.tariff.specs.Diff.{diff};
@@ -8,7 +11,7 @@ use kinds::{Money, Tick};
 
 // The prices of the ten operations, the error price, and the rate of storage.
 #[repr(C)]
-#[derive(Drop)]
+#[derive(Clone, Copy)]
 pub struct Tariff {
     pub create: u32,
     pub read: u32,

@@ -1,5 +1,8 @@
 // Runs Format and Check: on both sides of Format's limits, and on an image of 8 blocks with one byte at a time damaged.
 // A row of what it writes: what ran, its report or answer, and on what.
+
+#![tactic(auto)]
+
 ghost use Rattle.std.specs.Prelude.{◌≡◌, length};
 
 use kinds::{BlockNum, Tick};

@@ -1,5 +1,8 @@
 // Runs GetIds, Scavenge and Profile as the case file, stdin, asks: on both sides of their limits, on damaged images, in
 // walks while the store changes. It writes each line and then what is seen; the case file says what the numbers are.
+
+#![tactic(auto)]
+
 ghost use Rattle.std.specs.Prelude.{◌≡◌, length};
 
 use kinds::{Tick, User};

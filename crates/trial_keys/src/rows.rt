@@ -2,7 +2,7 @@
 use libc::STDOUT_FILENO;
 
 // Rows written, and how many of them differ.
-#[derive(Drop)]
+#[derive(Clone, Copy)]
 pub(crate) struct Total {
     pub rows: u32,
     pub differ: u32,

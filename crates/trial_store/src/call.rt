@@ -7,7 +7,7 @@ use kinds::{Id, Money, Receipt, Report, Tick, User};
 use tariff::Tariff;
 
 // A call and what it is given; a size is that of the data buffer that is lent.
-#[derive(Drop)]
+#[derive(Clone, Copy)]
 pub(crate) enum Call {
     // client, now, expiry, size
     Create(u32, u64, u64, usize),

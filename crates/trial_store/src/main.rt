@@ -1,5 +1,8 @@
 // Runs the seven operations on one block, and document 01's fourteen calls, on images of 8 blocks in memory.
 // A row: what ran, what document 01 expects, what was seen, and DIFFERS where the two are not the same.
+
+#![tactic(auto)]
+
 use crate::rows::{Tally, field, say_heading, write};
 
 mod call;

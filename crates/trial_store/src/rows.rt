@@ -2,7 +2,7 @@
 use libc::STDOUT_FILENO;
 
 // What a call answers: report, charge, whether bytes of the image or of a lent buffer changed, and up to three results.
-#[derive(Drop)]
+#[derive(Clone, Copy)]
 pub(crate) struct Seen {
     pub report: u8,
     pub charge: i64,
@@ -14,7 +14,7 @@ pub(crate) struct Seen {
 }
 
 // The names of an operation's results.
-#[derive(Drop)]
+#[derive(Clone, Copy)]
 pub(crate) enum Names {
     Nothing,
     Id,
@@ -26,7 +26,7 @@ pub(crate) enum Names {
 }
 
 // The rows so far, how many of them differ, and how many bytes of the image are lent to a call.
-#[derive(Drop)]
+#[derive(Clone, Copy)]
 pub(crate) struct Tally {
     pub rows: u32,
     pub differ: u32,

@@ -1,4 +1,7 @@
 // A walk by keys over a client's ids, kept by its caller in one record.
+
+#![tactic(auto)]
+
 ghost use Rattle.std.specs.Prelude.{◌≡◌};
 ghost use Rattle.plain.specs.Tests.{when};
 ghost use Rattle.promise.specs.Refusals.{succeeds};
@@ -9,7 +12,7 @@ use kinds::{GetIdsAnswer, Receipt, Report, User, Walk};
 use tariff::Tariff;
 
 // What a step gives: the answer, and the record after it.
-#[derive(Drop)]
+#[derive(Clone, Copy)]
 pub struct Stepped {
     pub answer: GetIdsAnswer,
     pub walk: Walk,

@@ -1,4 +1,7 @@
 // Little-endian numbers and runs of bytes, read from and written to a lent slice.
+
+#![tactic(auto)]
+
 ghost use Rattle.std.specs.Prelude.{◌≡◌, ◌+◌, ◌*◌, ◌≤◌, ◌<◌, length, replicate};
 ghost use Rattle.word.specs.Word.{part, word_at, bytes_of, blank, all_zero};
 ghost use Rattle.word.specs.Write.{over};

@@ -12,7 +12,7 @@ use tariff::Tariff;
 
 // What GetIds and Profile give: the key to go on with, and how many entries were written.
 #[repr(C)]
-#[derive(Drop)]
+#[derive(Clone, Copy)]
 pub struct Listed {
     pub charge: Money,
     pub key: u32,
@@ -22,7 +22,7 @@ pub struct Listed {
 
 // What Scavenge gives: the key to go on with, and how many blocks were removed.
 #[repr(C)]
-#[derive(Drop)]
+#[derive(Clone, Copy)]
 pub struct Scavenged {
     pub charge: Money,
     pub key: u32,
@@ -32,7 +32,7 @@ pub struct Scavenged {
 
 // What a step of a walk gives: the record after it, and the rest as GetIds.
 #[repr(C)]
-#[derive(Drop)]
+#[derive(Clone, Copy)]
 pub struct Stepped {
     pub walk: Walk,
     pub charge: Money,

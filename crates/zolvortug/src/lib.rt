@@ -1,5 +1,8 @@
 // The library for C and Rust. A lent slice passes as a pointer and then a length, a report as its number, an answer as
 // a flat struct by value. Inputs stand in the monograph's order, the time and then the image last.
+
+#![tactic(auto)]
+
 ghost use Rattle.std.specs.Prelude.{◌≡◌};
 ghost use Rattle.kinds.specs.Report.{number_of};
 ghost use Rattle.plain.specs.Tests.{when};

@@ -10,7 +10,7 @@ use series::{Answer, Sample};
 
 // Where a reader stands, in nine words that its caller keeps: `series::Place`, with the report's number last.
 #[repr(C)]
-#[derive(Drop)]
+#[derive(Clone, Copy)]
 pub struct Place {
     pub n: u32,
     pub client: u32,
@@ -25,7 +25,7 @@ pub struct Place {
 
 // What a step answers: the phase, a NaN where there is none, and the answer's number.
 #[repr(C)]
-#[derive(Drop)]
+#[derive(Clone, Copy)]
 pub struct Sampled {
     pub phase: f64,
     pub answer: u8,

@@ -14,7 +14,7 @@ use tariff::Tariff;
 
 // What Create and Replace give.
 #[repr(C)]
-#[derive(Drop)]
+#[derive(Clone, Copy)]
 pub struct Created {
     pub id: Id,
     pub charge: Money,
@@ -23,7 +23,7 @@ pub struct Created {
 
 // What Read, Destroy and SetExpiry give.
 #[repr(C)]
-#[derive(Drop)]
+#[derive(Clone, Copy)]
 pub struct Done {
     pub charge: Money,
     pub report: u8,
@@ -31,7 +31,7 @@ pub struct Done {
 
 // What Status gives.
 #[repr(C)]
-#[derive(Drop)]
+#[derive(Clone, Copy)]
 pub struct Told {
     pub created: Tick,
     pub expires: Tick,
@@ -42,7 +42,7 @@ pub struct Told {
 
 // What GetCount gives.
 #[repr(C)]
-#[derive(Drop)]
+#[derive(Clone, Copy)]
 pub struct Counted {
     pub charge: Money,
     pub count: u32,

@@ -1,0 +1,27 @@
+-- `word::fill` meets its contract. The invariant: the bytes that are left, stored into what there is, give what is to
+-- be.
+use Prim.Native.Nat.{◌-◌}
+use mathlib.Core.Path.{◌≡◌, refl, ◌∙◌}
+use native.Mathlib.Nat.{add-zero, sub-zero}
+use native.Mathlib.Omega.{arith}
+use borrow.Author.Rules.{rules}
+use lib.ListN.{length-set, length-replicate}
+use Rattle.word.proofs.Turns.{store_turn, store_end, fill_turn, stored}
+use Rattle.word.proofs.fill.Goals as goal
+
+pub loop-i-init : goal.loop-i-init
+loop-i-init c = (search rules, refl, rw (add-zero, sub-zero))
+
+pub loop-i-preserved : goal.loop-i-preserved
+loop-i-preserved c =
+    let l = c.loop-i in (
+      search rules,
+      rw length-set l.invariant.1,
+      store_turn _ _ _ _ _
+          ∙ rw (fill_turn _ _ _ c.loop-i-test.true) at l.invariant.2,
+    )
+
+pub returns : goal.returns
+returns c =
+    let e : c.args.k - c.loop-i.i ≡ 0 = omega arith in
+    (rw (e, store_end) at c.loop-i.invariant.2) ∙ stored _ _ _ (rw length-replicate (omega arith))

@@ -1,0 +1,26 @@
+-- `word::paste_bytes` meets its contract. The invariant: the bytes that are left, stored into what there is, give what
+-- is to be.
+use Prim.Native.Nat.{◌-◌}
+use mathlib.Core.Path.{refl, ◌∙◌}
+use native.Mathlib.Nat.{add-zero}
+use native.Mathlib.Omega.{arith}
+use borrow.Author.Rules.{rules}
+use lib.ListN.{length-set, drop_of_length-le}
+use Rattle.word.proofs.Turns.{store_turn, store_end, drop_turn, stored}
+use Rattle.word.proofs.paste_bytes.Goals as goal
+
+pub loop-i-init : goal.loop-i-init
+loop-i-init c = (search rules, refl, rw add-zero)
+
+pub loop-i-preserved : goal.loop-i-preserved
+loop-i-preserved c =
+    let l = c.loop-i in (
+      search rules,
+      rw length-set l.invariant.1,
+      store_turn _ _ _ _ _
+          ∙ rw (drop_turn _ _ c.loop-i-test.true) at l.invariant.2,
+    )
+
+pub returns : goal.returns
+returns c = (rw (drop_of_length-le _ c.loop-i-test.false, store_end) at c.loop-i.invariant.2)
+    ∙ stored _ _ _ (omega arith)
