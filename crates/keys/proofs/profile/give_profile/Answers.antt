@@ -1,0 +1,14 @@
+-- `keys::profile::give_profile` meets its contract.
+use native.Mathlib.Omega.{arith}
+use Rattle.run.specs.Laws.{picked_few}
+use Rattle.keys.specs.Visit.{used}
+use Rattle.keys.proofs.profile.give_profile.Goals as goal
+
+pub overflow_cast-result : goal.overflow_cast-result
+overflow_cast-result c =
+    let a = c.args in
+    omega (arith, c.enter_blocks-entries.ensures.entries, picked_few (used a.img.now) a.from a.visited)
+
+pub returns : goal.returns
+returns c =
+    (rw (c.done.ensures, c.price.ensures, c.key_at.ensures, c.enter_blocks-entries.ensures.entries), c.enter_blocks-entries.ensures.bytes)

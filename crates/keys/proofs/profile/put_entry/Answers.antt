@@ -1,0 +1,16 @@
+-- `keys::profile::put_entry` meets its contract: three writes that follow one another.
+use native.Mathlib.Omega.{arith}
+use Rattle.keys.proofs.Entries.{entry-written}
+use Rattle.keys.proofs.profile.put_entry.Goals as goal
+
+pub returns : goal.returns
+returns c =
+    rw (
+      c.put64-3.ensures,
+      c.put64-2.ensures,
+      c.put64.ensures,
+      c.expires-expires.ensures,
+      c.created-created.ensures,
+      c.owner-owner.ensures,
+    )
+    (entry-written _ _ _ _ _ (omega (arith, c.requires.0)))

@@ -1,0 +1,14 @@
+-- `keys::scavenge::give_scavenge` meets its contract.
+use native.Mathlib.Omega.{arith}
+use Rattle.run.specs.Laws.{picked_few}
+use Rattle.keys.specs.Marks.{marked}
+use Rattle.keys.proofs.scavenge.give_scavenge.Goals as goal
+
+pub overflow_cast-result : goal.overflow_cast-result
+overflow_cast-result c =
+    let a = c.args in
+    omega (arith, c.remove-count.ensures.gone, picked_few (marked a.marks.now a.from) a.from a.visited)
+
+pub returns : goal.returns
+returns c =
+    (rw (c.done.ensures, c.price.ensures, c.key_at.ensures, c.remove-count.ensures.gone), c.remove-count.ensures.image)
