@@ -63,4 +63,4 @@ returns-in-Good c =
     omega (arith, ap (λ (x : Report). number_of x) q, c.number.ensures, c.if-number-gt0.false) in
     let p = c.requires in
     lists _ _ _ _ _ _ _ _ p _ clear c.reach.ensures _ (sym c.visit-found.ensures
-    ∙ c.in-Good.is) _ _ c.give_ids.ensures.0 c.give_ids.ensures.1
+    ∙ c.in-Good.is) _ _ c.give_ids.ensures.answer c.give_ids.ensures.bytes

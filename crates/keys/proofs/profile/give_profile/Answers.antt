@@ -11,4 +11,4 @@ overflow_cast-result c =
 
 pub returns : goal.returns
 returns c =
-    (rw (c.done.ensures, c.price.ensures, c.key_at.ensures, c.enter_blocks-entries.ensures.entries), c.enter_blocks-entries.ensures.bytes)
+    record { answer = rw (c.done.ensures, c.price.ensures, c.key_at.ensures, c.enter_blocks-entries.ensures.entries); bytes = c.enter_blocks-entries.ensures.bytes }

@@ -67,7 +67,7 @@ returns c =
     omega (arith, ap (λ (x : Report). number_of x) q, c.number.ensures, c.if-number-gt0.false) in
     let p = c.requires in
     enters _ _ _ _ _ _ _ p _ clear c.reach-visited.ensures (sym c.all_good.ensures
-    ∙ c.if-not-all_good.false) _ _ c.give_profile.ensures.0 c.give_profile.ensures.1
+    ∙ c.if-not-all_good.false) _ _ c.give_profile.ensures.answer c.give_profile.ensures.bytes
 
 pub reach-visited-requires : goal.reach-visited-requires
 reach-visited-requires c =

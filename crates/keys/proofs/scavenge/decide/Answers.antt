@@ -7,21 +7,17 @@ use Rattle.keys.proofs.scavenge.decide.Goals as goal
 
 pub returns-then-not-all_good : goal.returns-then-not-all_good
 returns-then-not-all_good c =
-    let p = c.requires in
-    let both = (
-      bad_header _ _ _ _ _ p.0.its_n p.2 (sym c.all_good.ensures ∙ c.if-not-all_good.true),
-      (λ e. absurd (true≢false (sym e)), λ e. absurd (true≢false (sym e))),
-    ) in record { answer = both.0; marks = both.1; tally = both.2 }
+    let p = c.requires in record { answer = bad_header _ _ _ _ _ p.0.its_n p.2 (sym c.all_good.ensures ∙ c.if-not-all_good.true); marks = λ e. absurd (true≢false (sym e)); tally = λ e. absurd (true≢false (sym e)) }
 
 pub returns : goal.returns
 returns c =
     let a = c.args in
     let marks = c.mark_all.new.marks in
-    let g = sym c.all_good.ensures ∙ c.if-not-all_good.false in
-    let both = (
-      c.has_counts.ensures
+    let g = sym c.all_good.ensures ∙ c.if-not-all_good.false in record {
+      answer = c.has_counts.ensures
           ∙ by_tally a.n a.img.now c.mark_all.new.tally marks a.visited c.mark_all.ensures.tally
           ∙ decided a.img.now a.time.0 a.from a.visited marks c.mark_all.ensures.marks g a.n c.requires.0.its_n
-          c.requires.2,
-      (λ e. c.mark_all.ensures.marks, λ e. c.mark_all.ensures.tally),
-    ) in record { answer = both.0; marks = both.1; tally = both.2 }
+          c.requires.2;
+      marks = λ e. c.mark_all.ensures.marks;
+      tally = λ e. c.mark_all.ensures.tally;
+    }

@@ -66,7 +66,7 @@ give_scavenge-requires c =
       omega (arith, c.reach-visited.ensures),
       c.decide.auto.marks,
       c.decide.auto.tally,
-      c.decide.ensures.marks.1 well,
+      c.decide.ensures.tally well,
     )
 
 pub returns : goal.returns
@@ -77,6 +77,6 @@ returns c =
     let well = c.if-not-decide.false in
     let p = c.requires in
     sweeps _ _ _ _ _ _ _ p clear (sym c.decide.ensures.answer ∙ well) _ c.reach-visited.ensures
-    c.decide.new.marks (c.decide.ensures.marks.0 well) c.decide.new.tally (c.decide.ensures.marks.1 well)
+    c.decide.new.marks (c.decide.ensures.marks well) c.decide.new.tally (c.decide.ensures.tally well)
     (changing_known _ _ _ _ _ _ p).laid (λ x. omega (arith, c.slice_known-1.given x)) _ _
-    c.give_scavenge.ensures.0 c.give_scavenge.ensures.1
+    c.give_scavenge.ensures.answer c.give_scavenge.ensures.image

@@ -12,6 +12,7 @@ use Rattle.promise.specs.Map.{good}
 use Rattle.promise.specs.Counts.{owned_by}
 use Rattle.keys.proofs.Visits.{found_bad, found-good}
 use Rattle.keys.proofs.visit.visit.Goals as goal
+use Rattle.keys.proofs.visit.visit.Goals.{then-loop-left-test+else-wanted-gt0, else-loop-left-test}
 
 pub loop-left-init : goal.loop-left-init
 loop-left-init c = (omega arith, refl, omega arith, refl)
@@ -57,10 +58,10 @@ returns c =
     let l = c.loop-left in
     let p = owned_by a.img.now a.client.0 in
     let none : visits p l.left l.wanted l.b ≡ 0 =
-    ⊎_elim
-    (λ w. let h : l.wanted ≤ 0 = omega (arith, ltb-false) in visits_full p l.left l.wanted l.b h)
-    (λ w. visits_end p l.left l.wanted l.b w.left)
-    c.loop-left-test.branch in
+    elim c.loop-left-test.branch [
+      | then-loop-left-test+else-wanted-gt0 w ↦ visits_full p l.left l.wanted l.b (omega arith)
+      | else-loop-left-test w ↦ visits_end p l.left l.wanted l.b (omega arith)
+    ] in
     found-good _ _ _ _ (omega arith) (all_end (good a.img.now) l.b _ (omega arith) ∙ l.invariant.3)
 
 pub is_good-requires : goal.is_good-requires
