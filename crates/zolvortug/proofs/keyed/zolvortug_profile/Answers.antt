@@ -1,0 +1,9 @@
+-- `zolvortug::keyed::zolvortug_profile` meets its contract: the operation's promise, laid flat.
+use mathlib.Core.Path.{ap}
+use Rattle.zolvortug.specs.Flat.{profiled}
+use Rattle.zolvortug.proofs.keyed.zolvortug_profile.Goals as goal
+
+pub returns : goal.returns
+returns c =
+    let promise = c.profile-a.ensures in
+    record { answer = rw c.number.ensures (ap profiled promise.answer); given = promise.given }

@@ -1,0 +1,9 @@
+-- `zolvortug::keyed::zolvortug_scavenge` meets its contract: the operation's promise, laid flat.
+use mathlib.Core.Path.{ap}
+use Rattle.zolvortug.specs.Flat.{scavenged}
+use Rattle.zolvortug.proofs.keyed.zolvortug_scavenge.Goals as goal
+
+pub returns : goal.returns
+returns c =
+    let promise = c.scavenge-a.ensures in
+    record { answer = rw c.number.ensures (ap scavenged promise.answer); image = promise.image }
