@@ -14,7 +14,7 @@
  * operation costs the error price, and Format, Check and readers are free. All of this is proved; docs/PROMISES.md says
  * where. docs/MANUAL.md says more of all that follows.
  *
- * Link libzolvortug.a, which `rt staticlib zolvortug` writes to target/staticlib. It is for x86-64 Linux. */
+ * Link libzolvortug.a, which `tools/make-library` writes to target/staticlib. It is for x86-64 Linux. */
 #ifndef ZOLVORTUG_H
 #define ZOLVORTUG_H
 

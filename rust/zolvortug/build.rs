@@ -1,4 +1,4 @@
-//! Links the proved library that `rt staticlib zolvortug` writes. ZOLVORTUG_LIB names another folder that holds it.
+//! Links the proved library that `tools/make-library` writes. ZOLVORTUG_LIB names another folder that holds it.
 use std::env;
 
 fn main() {

@@ -201,8 +201,8 @@ ends_there : ((ends_at_n prices lists fresh).report ≡ Success) × ((ends_at_n 
 unfolding opened
 ends_there = (refl, refl, refl)
 
-pub ends_at-n : ¬ Demand2 ends_at_n
-ends_at-n d =
+pub ends_at_n_lem : ¬ Demand2 ends_at_n
+ends_at_n_lem d =
     let k = ((on_fresh d lists).choices ends_there.0).0 in
     let e : some end_key ≡ some 8 = sym ends_there.2 ∙ sym k ∙ ends_there.1 in
     let k : ◌≡◌ {A = ℕ} end_key 8 = cc e in

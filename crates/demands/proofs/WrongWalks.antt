@@ -109,8 +109,8 @@ names_one : length (ids_in (result first 0) first.buffer) ≡ 1
 unfolding names_all_at_once outcome get_ids_answer ids_in
 names_one = rw (succeeds, number, far-all 72 right (omega arith))
 
-pub names_all-at_once : ¬ Demand2 names_all_at_once
-names_all-at_once d =
+pub names_all_at_once_lem : ¬ Demand2 names_all_at_once
+names_all_at_once_lem d =
     let e = ((d.obeys prices (GetIds 3 start_key 1 room) img sound (most img sound)).choices first_well).1 in
     omega (arith, names_one, rw names_none at (ap length e))
 

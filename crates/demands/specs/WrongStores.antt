@@ -201,9 +201,9 @@ pub record Excluded : Type 0 where
   pub answers_alike_lem : ¬ Demand2 answers_alike
   pub stores_nothing_lem : ¬ Demand2 stores_nothing
   pub made_up_count_lem : ¬ Demand2 made_up_count
-  pub names_all-at_once : ¬ Demand2 names_all_at_once
+  pub names_all_at_once_lem : ¬ Demand2 names_all_at_once
   pub visits-all : ¬ Demand2 visits_all
-  pub ends_at-n : ¬ Demand2 ends_at_n
+  pub ends_at_n_lem : ¬ Demand2 ends_at_n
   pub scribbles_on : ¬ Demand2 scribbles
   pub gives_more_lem : ¬ Demand2 gives_more
   -- (nor do these two meet Demand 2, from which Demand 3 follows)

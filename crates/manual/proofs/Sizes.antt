@@ -60,8 +60,8 @@ one-length l m e a b = same_length l m (one-naming l m e a b)
 pub one_size : {X Y : Set} {n m : ℕ} → X ≈ Y → HasSize X n → HasSize Y m → n ≡ m
 one_size e a b = sym a.2 ∙ one-length a.0 b.0 e a.1 b.1 ∙ b.2
 
-pub a-set_has_one_size : OneSize
-a-set_has_one_size X n m a b = one_size (λ x. refl) a b
+pub a_set_has_one_size : OneSize
+a_set_has_one_size X n m a b = one_size (λ x. refl) a b
 
 pub resized : {X Y : Set} {n : ℕ} → X ≈ Y → HasSize X n → HasSize Y n
 resized e a = (a.0, λ x. a.1 x ∙ one_same e x, a.2)

@@ -8,7 +8,7 @@ use std::os::unix::fs::PermissionsExt;
 const RT: &str = "#!/bin/bash
 echo rt >> \"$CALLS\"; echo \"rt: plain proved (1 s)\"; echo noise
 [[ -z ${RT_FAILS-} ]] || exit 1
-mkdir -p target/staticlib && echo library > target/staticlib/libzolvortug.a\n";
+mkdir -p out && echo library > out/libzolvortug.a\n";
 const CARGO: &str = "#!/bin/bash
 echo cargo >> \"$CALLS\"; echo noise
 [[ -z ${CARGO_FAILS-} ]] || exit 1
@@ -23,11 +23,12 @@ fn script(f: &Folder, name: &str, text: &str) {
 #[test]
 fn builds_what_is_old() {
     let f = Folder::new();
-    for folder in ["tree/crates", "tree/rust", "bin", "here"] {
+    for folder in ["tree/crates/zolvortug", "tree/rust", "tree/tools", "bin", "here"] {
         fs::create_dir_all(f.path(folder)).unwrap();
     }
     fs::write(f.path("tree/crates.txt"), "").unwrap();
     script(&f, "tree/zolvortug", include_str!("../../../zolvortug"));
+    script(&f, "tree/tools/make-library", include_str!("../../../tools/make-library"));
     script(&f, "bin/rt", RT);
     script(&f, "bin/cargo", CARGO);
     let run = |setting: &str| {

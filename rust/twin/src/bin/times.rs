@@ -1,7 +1,7 @@
 //! Times of the proved library beside plain safe Rust at N = 4,096, as a table. The two take turns on images of their
 //! own, which are compared byte for byte after each turn; and read the same series, of which they give the same sums.
 //!
-//!     rt staticlib zolvortug
+//!     tools/make-library
 //!     cargo run --release --manifest-path rust/Cargo.toml --target-dir target/rust --bin times
 use std::hint::black_box;
 use std::time::Instant;
