@@ -1,4 +1,3 @@
 // Facts of numbers and tests that proofs share. No function.
 
 #![tactic(auto)]
-

@@ -1,7 +1,7 @@
 -- Laws of keys: a call moves its key by the headers that it visited, whatever it named; the end key comes exactly where
 -- it stopped at N; and a refused call gives back the key that it received.
 -- Assumes nothing.
-use Prim.Native.Nat.{ℕ, ◌+◌, ◌-◌, ◌≤◌, ◌<◌}
+use Prim.Native.Nat.{ℕ, ◌+◌, ◌≤◌, ◌<◌}
 use mathlib.Core.Path.{◌≡◌, refl}
 use mathlib.Core.Bool.{Bool, true, false}
 use mathlib.Core.List.{List}

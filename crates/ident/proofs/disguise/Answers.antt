@@ -1,6 +1,5 @@
 -- `ident::disguise` meets its contract. The invariant: the rounds that are left, of what there is, give the disguised
 -- number.
-use Prim.Native.Nat.{◌-◌}
 use mathlib.Core.Path.{◌≡◌, refl, ◌∙◌}
 use native.Mathlib.Omega.{arith}
 use borrow.Author.Rules.{rules}

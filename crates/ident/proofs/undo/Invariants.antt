@@ -1,5 +1,5 @@
 -- `ident::undo` meets its contract. The invariant: what there is, is the number with the rounds from `i` on undone.
-use Prim.Native.Nat.{◌-◌, ◌≤◌}
+use Prim.Native.Nat.{◌≤◌}
 use mathlib.Core.Path.{◌≡◌}
 use lib.ListN.{drop}
 use Rattle.ident.specs.Ident.{unrounds, keys}

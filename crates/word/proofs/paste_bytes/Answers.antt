@@ -1,6 +1,5 @@
 -- `word::paste_bytes` meets its contract. The invariant: the bytes that are left, stored into what there is, give what
 -- is to be.
-use Prim.Native.Nat.{◌-◌}
 use mathlib.Core.Path.{refl, ◌∙◌}
 use native.Mathlib.Nat.{add-zero}
 use native.Mathlib.Omega.{arith}

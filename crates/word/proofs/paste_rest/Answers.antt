@@ -1,6 +1,6 @@
 -- `word::paste_rest` meets its contract. The invariant: the bytes that are left, written over what there is, give what
 -- is to be.
-use Prim.Native.Nat.{◌+◌, ◌-◌, ◌≤◌}
+use Prim.Native.Nat.{◌+◌, ◌≤◌}
 use mathlib.Core.Path.{refl, ◌∙◌}
 use native.Mathlib.Nat.{add-zero}
 use native.Mathlib.Omega.{arith}

@@ -1,6 +1,6 @@
 -- `image::map::free_from` meets its contract. The invariant: the lowest free block of those from byte `i` on is the
 -- lowest of those from byte `from` on.
-use Rattle.std.proofs.Common.{◌-◌, refl, ap, ◌∙◌, arith, rules}
+use Rattle.std.proofs.Common.{refl, ap, ◌∙◌, arith, rules}
 use Rattle.kinds.specs.Kinds.{block_num}
 use Rattle.run.specs.Laws.{first-le}
 use Rattle.image.specs.Image.{bit_of}

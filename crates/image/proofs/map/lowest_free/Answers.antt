@@ -1,6 +1,6 @@
 -- `image::map::lowest_free` meets its contract. The invariant: the lowest free block of those from byte `i` on is the
 -- lowest of all.
-use Rattle.std.proofs.Common.{◌-◌, ap, ◌∙◌, arith, rules}
+use Rattle.std.proofs.Common.{ap, ◌∙◌, arith, rules}
 use native.Mathlib.Nat.{sub-zero}
 use Rattle.kinds.specs.Kinds.{block_num}
 use Rattle.run.specs.Laws.{first-le}

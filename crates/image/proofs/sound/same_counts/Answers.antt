@@ -2,7 +2,6 @@
 -- left.
 use Rattle.std.proofs.Common.{sym, refl, ◌∙◌, rules}
 use Rattle.run.proofs.Turns.{all_turn, all_stop, all_end}
-use Rattle.image.specs.Image.{same_count}
 use Rattle.image.proofs.sound.same_counts.Goals as goal
 
 pub loop-left-init : goal.loop-left-init
