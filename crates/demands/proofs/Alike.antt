@@ -15,9 +15,9 @@ use lib.Seq.{ext_get_or, take_at, drop_at}
 use Rattle.plain.specs.Numbers.{lt_or_le}
 use Rattle.plain.specs.Tests.{when, decide, nth}
 use Rattle.word.specs.Word.{part, word_at, bytes_of, blank, all_zero, Bytes}
-use Rattle.word.specs.Laws.{length_part, get_or-part, part_whole, part_split, bytes-part, word_bound, word_bytes}
-use Rattle.word.specs.Laws.{zero-blank}
-use Rattle.run.specs.Tally.{picked_same}
+use Rattle.word.proofs.Laws.{length_part, get_or-part, part_whole, part_split, bytes-part, word_bound, word_bytes}
+use Rattle.word.proofs.Laws.{zero-blank}
+use Rattle.run.proofs.Tally.{picked_same}
 use Rattle.promise.specs.Layout.{size_of}
 use Rattle.promise.specs.Trailer.{n_of, clock_of}
 use Rattle.promise.specs.Header.{header_of, owner_of, id_in, created_of, expires_of, tag_of, is_used, header_bytes, used_right}

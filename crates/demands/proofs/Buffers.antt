@@ -13,7 +13,7 @@ use lib.Seq.{take_at, drop_at}
 use Rattle.plain.specs.Tests.{when}
 use Rattle.word.specs.Word.{part, le, word_at, bytes_of}
 use Rattle.word.specs.Write.{over}
-use Rattle.word.specs.Laws.{length-bytes_of, le-bytes_of}
+use Rattle.word.proofs.Laws.{length-bytes_of, le-bytes_of}
 use Rattle.run.specs.Run.{rows, Every}
 use Rattle.promise.specs.Keys.{end_key, key_at}
 use Rattle.manual.specs.State.{BlockInfo}

@@ -12,9 +12,9 @@ use lib.ListN.{length}
 use Rattle.plain.specs.Tests.{except}
 use Rattle.word.specs.Word.{part, le, word_at, bytes_of}
 use Rattle.word.specs.Write.{puts, Apart, over}
-use Rattle.word.specs.Laws.{sizes, length-bytes_of, length_over, part-part, frame, same, le-bytes_of}
+use Rattle.word.proofs.Laws.{sizes, length-bytes_of, length_over, part-part, frame, same, le-bytes_of}
 use Rattle.run.specs.Run.{one}
-use Rattle.run.specs.Tally.{picked_same, picked_changed}
+use Rattle.run.proofs.Tally.{picked_same, picked_changed}
 use Rattle.promise.specs.Layout.{header_at, map_at, count_at, data_at, trailer_at}
 use Rattle.promise.specs.Trailer.{trailer_of, n_of, clock_of, right_trailer, trailer_right}
 use Rattle.promise.specs.Header.{header_of, is_used, good_header}

@@ -8,7 +8,7 @@ use mathlib.Core.Logic.{◌⊎◌, inl, inr}
 use borrow.Author.Tests.{eqb-true}
 use Rattle.plain.specs.Tests.{when}
 use Rattle.kinds.specs.Report.{number_of}
-use Rattle.kinds.specs.Laws.{injective}
+use Rattle.kinds.proofs.Laws.{injective}
 use Rattle.kinds.specs.declared.Report.{Report}
 use Rattle.kinds.specs.declared.Report.TheVariants.{Success, BadImage}
 use Rattle.kinds.specs.declared.Walk.{Walk}

@@ -13,11 +13,11 @@ use lib.Dec.{ltb}
 use lib.ListN.{length}
 use Rattle.plain.specs.Numbers.{lt_or_le}
 use Rattle.plain.specs.Tests.{decide, both}
-use Rattle.word.specs.Laws.{all_zero-blank}
+use Rattle.word.proofs.Laws.{all_zero-blank}
 use Rattle.ident.specs.Ident.{null_id, unround_of, unrounds, undone, time_of, shaped_in}
 use Rattle.tariff.specs.declared.Tariff.{Tariff}
 use Rattle.run.specs.Run.{picked}
-use Rattle.run.specs.Laws.{picked_few}
+use Rattle.run.proofs.Laws.{picked_few}
 use Rattle.promise.specs.Layout.{number_right}
 use Rattle.promise.specs.Trailer.{n_of, clock_of}
 use Rattle.promise.specs.Header.{header_of, is_used}

@@ -12,9 +12,9 @@ use native.Mathlib.Omega.{arith}
 use lib.ListN.{length, get_or, take, drop, take-append-drop, length-drop, length-take}
 use lib.Seq.{ext_get_or, get_or-drop, drop-drop}
 use Rattle.word.specs.Word.{part, le, word_at, bytes_of, Bytes}
-use Rattle.word.specs.Laws.{bytes_of-le, bytes-part}
+use Rattle.word.proofs.Laws.{bytes_of-le, bytes-part}
 use Rattle.kinds.specs.Report.{number_of}
-use Rattle.kinds.specs.Laws.{injective}
+use Rattle.kinds.proofs.Laws.{injective}
 use Rattle.kinds.specs.declared.Report.TheVariants.{Success}
 use Rattle.tariff.specs.declared.Tariff.{Tariff}
 use Rattle.promise.specs.Trailer.{n_of, clock_of}

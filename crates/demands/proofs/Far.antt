@@ -7,10 +7,10 @@ use mathlib.Core.List.{List, [], ◌∷◌}
 use native.Mathlib.Omega.{arith}
 use Rattle.word.specs.Word.{blank}
 use Rattle.word.specs.Write.{puts}
-use Rattle.word.specs.Laws.{length-blank, all_zero-blank}
+use Rattle.word.proofs.Laws.{length-blank, all_zero-blank}
 use Rattle.ident.specs.Ident.{id_of}
 use Rattle.run.specs.Run.{picked}
-use Rattle.run.specs.Laws.{just_yes, picked_none, picked_append}
+use Rattle.run.proofs.Laws.{just_yes, picked_none, picked_append}
 use Rattle.promise.specs.Layout.{number_right, size_of}
 use Rattle.promise.specs.Trailer.{n_of, clock_of}
 use Rattle.promise.specs.Header.{header_of, id_in, is_used}

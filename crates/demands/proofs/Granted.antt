@@ -9,7 +9,7 @@ use native.Mathlib.Omega.{arith}
 use lib.ListN.{length}
 use Rattle.word.specs.Write.{Write, puts, over}
 use Rattle.word.specs.Word.{part, Bytes}
-use Rattle.word.specs.Laws.{bytes-part, bytes_append, bytes-over, bytes-bytes_of, bytes-blank}
+use Rattle.word.proofs.Laws.{bytes-part, bytes_append, bytes-over, bytes-bytes_of, bytes-blank}
 use Rattle.kinds.specs.declared.Report.TheVariants.{Success}
 use Rattle.ident.specs.Ident.{id_of}
 use Rattle.tariff.specs.declared.Tariff.{Tariff}

@@ -13,14 +13,14 @@ use lib.ListN.{length, length-map}
 use Rattle.plain.specs.Tests.{both}
 use Rattle.word.specs.Write.{over}
 use Rattle.word.specs.Word.{bytes_of}
-use Rattle.word.specs.Laws.{length-bytes_of, length_over, same}
+use Rattle.word.proofs.Laws.{length-bytes_of, length_over, same}
 use Rattle.kinds.specs.declared.Report.TheVariants.{Success, NotManager, BadKey}
-use Rattle.ident.specs.Laws.{id_below}
+use Rattle.ident.proofs.Laws.{id_below}
 use Rattle.tariff.specs.declared.Tariff.{Tariff}
 use Rattle.run.specs.Run.{picked, all_of, rows, Every}
-use Rattle.run.specs.Laws.{picked-le, picked_few, each_all, every_picked}
+use Rattle.run.proofs.Laws.{picked-le, picked_few, each_all, every_picked}
 use Rattle.run.proofs.Turns.{length-rows}
-use Rattle.run.specs.Tally.{picked_same, picked_mono, picked-part}
+use Rattle.run.proofs.Tally.{picked_same, picked_mono, picked-part}
 use Rattle.promise.specs.Trailer.{n_of, clock_of}
 use Rattle.promise.specs.Header.{header_of, owner_of, created_of, expires_of, is_used}
 use Rattle.promise.specs.Map.{good}

@@ -12,9 +12,9 @@ use borrow.Author.Tests.{eq-eqb, ne_eqb, not-false}
 use lib.ListN.{length}
 use Rattle.word.specs.Word.{part}
 use Rattle.word.specs.Write.{puts}
-use Rattle.word.specs.Laws.{length_part, part_whole, part_split}
+use Rattle.word.proofs.Laws.{length_part, part_whole, part_split}
 use Rattle.ident.specs.Ident.{id_of}
-use Rattle.run.specs.Laws.{first_passes, picked_few}
+use Rattle.run.proofs.Laws.{first_passes, picked_few}
 use Rattle.promise.specs.Layout.{size_of}
 use Rattle.promise.specs.Trailer.{n_of, clock_of}
 use Rattle.promise.specs.Header.{header_of, owner_of, created_of, expires_of, tag_of, is_used, later_of, used_right}

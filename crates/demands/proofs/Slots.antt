@@ -10,7 +10,7 @@ use borrow.Author.Tests.{eqb-true, ltb-true, le-ltb, eq-eqb, ne_eqb}
 use lib.Dec.{eqb, leb, ltb}
 use Rattle.plain.specs.Tests.{when, both}
 use Rattle.ident.specs.Ident.{undone, time_of, block_of, shaped_in}
-use Rattle.ident.specs.Laws.{time_back, block_back}
+use Rattle.ident.proofs.Laws.{time_back, block_back}
 use Rattle.promise.specs.Trailer.{n_of, clock_of}
 use Rattle.promise.specs.Header.{header_of, id_in, created_of, is_used}
 use Rattle.promise.specs.Map.{free, good}

@@ -12,11 +12,11 @@ use lib.Dec.{eqb}
 use lib.ListN.{length}
 use Rattle.word.specs.Word.{part, le, word_at, bytes_of, blank}
 use Rattle.word.specs.Write.{Write, puts, Apart, Within, Spares}
-use Rattle.word.specs.Laws.{sizes, length-bytes_of, length-blank, part-part, length-puts, frames, got, le-bytes_of}
-use Rattle.word.specs.Laws.{all_zero-blank}
+use Rattle.word.proofs.Laws.{sizes, length-bytes_of, length-blank, part-part, length-puts, frames, got, le-bytes_of}
+use Rattle.word.proofs.Laws.{all_zero-blank}
 use Rattle.word.specs.Bits.{clear_same, clear_other, bit_zero, set_same, set_other, byte_bit}
 use Rattle.ident.specs.Ident.{id_of}
-use Rattle.ident.specs.Laws.{id_below}
+use Rattle.ident.proofs.Laws.{id_below}
 use Rattle.run.specs.Run.{one}
 use Rattle.promise.specs.Layout.{header_at, map_at, count_at, data_at, trailer_at, size_of}
 use Rattle.promise.specs.Trailer.{clock_of}

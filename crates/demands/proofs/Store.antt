@@ -11,15 +11,15 @@ use lib.Dec.{eqb, leb, ltb}
 use lib.ListN.{length, length-append}
 use Rattle.plain.specs.Tests.{both, neither}
 use Rattle.word.specs.Write.{puts}
-use Rattle.word.specs.Laws.{length_part}
+use Rattle.word.proofs.Laws.{length_part}
 use Rattle.kinds.specs.declared.Report.TheVariants.{Success}
 use Rattle.ident.specs.Ident.{id_of}
-use Rattle.ident.specs.Laws.{time_back}
+use Rattle.ident.proofs.Laws.{time_back}
 use Rattle.tariff.specs.Charges.{T, create_charge, destroy_charge, replace_charge, set_expiry_charge}
 use Rattle.tariff.specs.declared.Tariff.{Tariff}
 use Rattle.run.specs.Run.{picked}
-use Rattle.run.specs.Laws.{first_passes, first-lowest, picked_few}
-use Rattle.run.specs.Tally.{picked_all, picked_fewer}
+use Rattle.run.proofs.Laws.{first_passes, first-lowest, picked_few}
+use Rattle.run.proofs.Tally.{picked_all, picked_fewer}
 use Rattle.promise.specs.Trailer.{n_of, clock_of}
 use Rattle.promise.specs.Header.{header_of, owner_of, expires_of, tag_of, is_used, later_of}
 use Rattle.promise.specs.Map.{free, good}

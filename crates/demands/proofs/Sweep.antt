@@ -13,7 +13,7 @@ use lib.Dec.{ltb}
 use Rattle.plain.specs.Numbers.{lt_or_le}
 use Rattle.plain.specs.Tests.{decide, both}
 use Rattle.run.specs.Run.{picked, each, times}
-use Rattle.run.specs.Laws.{one_yes, one_no, one-le, picked-none-below, picked-none-above, picked_once, each_all}
+use Rattle.run.proofs.Laws.{one_yes, one_no, one-le, picked-none-below, picked-none-above, picked_once, each_all}
 use Rattle.promise.specs.Trailer.{n_of, clock_of}
 use Rattle.promise.specs.Header.{header_of, owner_of, expires_of, is_used}
 use Rattle.promise.specs.Counts.{data_of}

@@ -11,7 +11,7 @@ use borrow.Author.Tests.{le-ltb, lt-leb, ne_eqb}
 use lib.ListN.{length, length-map}
 use Rattle.kinds.specs.declared.Report.TheVariants.{Success}
 use Rattle.run.specs.Run.{picked, visits, times}
-use Rattle.run.specs.Laws.{visits-le, visits_why}
+use Rattle.run.proofs.Laws.{visits-le, visits_why}
 use Rattle.promise.specs.Layout.{number_right}
 use Rattle.promise.specs.Trailer.{n_of}
 use Rattle.promise.specs.Header.{header_of, id_in}

@@ -5,7 +5,7 @@ use Rattle.std.proofs.Math.Option.{Option, none, some}
 use Rattle.std.proofs.Common.{arith, lt-ltb, le-leb, ltb-true}
 use Rattle.plain.specs.Tests.{when, both}
 use Rattle.ident.specs.Ident.{null_id, place, undone, id_of, time_of, shaped_in}
-use Rattle.ident.specs.Laws.{undo_id, id_below, time_back, block_back, ShapedAs, shaped_made}
+use Rattle.ident.proofs.Laws.{undo_id, id_below, time_back, block_back, ShapedAs, shaped_made}
 use Rattle.promise.specs.Trailer.{clock_of}
 use Rattle.promise.specs.Header.{header_of, owner_of, id_in, created_of, expires_of, tag_of, is_used}
 use Rattle.promise.specs.Counts.{data_of}

@@ -10,7 +10,7 @@ use lib.IntN.{ℤ, pos, negsuc}
 use borrow.Author.Tests.{eqb-true}
 use Rattle.plain.specs.Tests.{all, both, nth}
 use Rattle.kinds.specs.Report.{number_of}
-use Rattle.kinds.specs.Laws.{injective}
+use Rattle.kinds.proofs.Laws.{injective}
 use Rattle.tariff.specs.declared.Tariff.{Tariff}
 use Rattle.promise.specs.Header.{header_of}
 use Rattle.promise.specs.Sound.{sound_image}

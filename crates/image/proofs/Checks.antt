@@ -4,7 +4,7 @@ use Rattle.std.proofs.Common.{◌≡◌, ℕ, zero, suc, ◌<◌, true, false, �
 use mathlib.Core.Bool.{and_assoc}
 use Rattle.plain.specs.Tests.{was_first, was_second, apart}
 use Rattle.run.specs.Run.{all_of, times}
-use Rattle.run.specs.Laws.{all_same}
+use Rattle.run.proofs.Laws.{all_same}
 use Rattle.kinds.specs.Kinds.{tick}
 use Rattle.kinds.specs.declared.Tick.{Tick}
 use Rattle.promise.specs.Layout.{size_of}

@@ -3,10 +3,10 @@
 -- Assumes nothing.
 use Rattle.std.proofs.Common.{◌≡◌, ℕ, zero, suc, ◌+◌, ◌-◌, ◌*◌, ◌/◌, ◌%◌, ◌<◌, ◌≤◌, Bool, true, false, List, length, sym, refl, ap, ◌∙◌, arith}
 use Rattle.word.specs.Word.{part, word_at, all_zero}
-use Rattle.word.specs.Laws.{part_split}
+use Rattle.word.proofs.Laws.{part_split}
 use Rattle.word.proofs.Turns.{all_zero_append}
 use Rattle.run.specs.Run.{all_of, times}
-use Rattle.run.specs.Laws.{all_parts, all-each, all_same, picked_none}
+use Rattle.run.proofs.Laws.{all_parts, all-each, all_same, picked_none}
 use Rattle.run.proofs.Turns.{all_end}
 use Rattle.promise.specs.Layout.{map_at}
 use Rattle.promise.specs.Header.{header_of, is_used}

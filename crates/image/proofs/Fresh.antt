@@ -4,8 +4,8 @@
 use Rattle.std.proofs.Common.{◌≡◌, ℕ, ◌+◌, ◌/◌, ◌≤◌, true, false, List, ◌++◌, length, replicate, sym, refl, ap, ◌∙◌, arith, eq-eqb}
 use Rattle.word.specs.Word.{part, bytes_of, blank}
 use Rattle.word.specs.Write.{over, puts}
-use Rattle.word.specs.Laws.{sizes, length-bytes_of, length_over, length-blank, frame, part-part, part-blank, over_same}
-use Rattle.word.specs.Laws.{over_whole}
+use Rattle.word.proofs.Laws.{sizes, length-bytes_of, length_over, length-blank, frame, part-part, part-blank, over_same}
+use Rattle.word.proofs.Laws.{over_whole}
 use Rattle.kinds.specs.declared.Report.TheVariants.{Success, BadImage}
 use Rattle.promise.specs.Layout.{number_right, map_at, trailer_at, size_of}
 use Rattle.promise.specs.Trailer.{trailer_bytes}

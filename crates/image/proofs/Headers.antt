@@ -9,7 +9,7 @@ use Rattle.plain.specs.Numbers.{lt_or_le}
 use Rattle.plain.specs.Tests.{all, both, nth, all_append}
 use Rattle.word.specs.Word.{part, word_at, bytes_of, blank, all_zero, Bytes}
 use Rattle.word.specs.Write.{over}
-use Rattle.word.specs.Laws.{length-bytes_of, length-blank, length_part, part-part, over_append}
+use Rattle.word.proofs.Laws.{length-bytes_of, length-blank, length_part, part-part, over_append}
 use Rattle.word.proofs.Lent.{lent-part}
 use Rattle.word.proofs.Turns.{word_first, word_one, zero-le}
 use Rattle.ident.specs.Ident.{id_of}

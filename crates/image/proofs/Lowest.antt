@@ -6,7 +6,7 @@ use lib.Count.{under, count_trailing_zeros}
 use Rattle.word.specs.Word.{word_at, Bytes}
 use Rattle.word.proofs.WordBits.{word_bit}
 use Rattle.run.specs.Run.{first}
-use Rattle.run.specs.Laws.{first_within, first_beyond, first-moved}
+use Rattle.run.proofs.Laws.{first_within, first_beyond, first-moved}
 use Rattle.run.proofs.Turns.{first_end}
 use Rattle.promise.specs.Layout.{map_at}
 use Rattle.promise.specs.Map.{free}

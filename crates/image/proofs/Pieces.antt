@@ -2,7 +2,7 @@
 -- Assumes nothing.
 use Rattle.std.proofs.Common.{◌≡◌, ℕ, ◌+◌, ◌≤◌, List, ◌++◌, length, ap, ◌∙◌, ap₂, length-append}
 use Rattle.word.specs.Write.{over}
-use Rattle.word.specs.Laws.{over_append}
+use Rattle.word.proofs.Laws.{over_append}
 
 -- a write right after another
 pub after : (l : List ℕ) (at k : ℕ) (xs ys : List ℕ) → length xs ≡ k → at ≤ length l

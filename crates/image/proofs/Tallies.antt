@@ -5,11 +5,11 @@ use mathlib.Core.List.{map-append}
 use native.Mathlib.Decide.{ℕ_discrete}
 use Rattle.plain.specs.Tests.{when}
 use Rattle.word.specs.Word.{all_zero}
-use Rattle.word.specs.Laws.{length_part}
+use Rattle.word.proofs.Laws.{length_part}
 use Rattle.word.proofs.Lent.{lent-part}
 use Rattle.run.specs.Run.{just, times}
-use Rattle.run.specs.Laws.{just_yes, just_no, times_append, picked_few, picked_append}
-use Rattle.run.specs.Tally.{times-picked}
+use Rattle.run.proofs.Laws.{just_yes, just_no, times_append, picked_few, picked_append}
+use Rattle.run.proofs.Tally.{times-picked}
 use Rattle.run.proofs.Turns.{picked_turn, picked_end}
 use Rattle.promise.specs.Header.{header_of, is_used, owner_of}
 use Rattle.promise.proofs.HeaderLaws.{zero-unused, client}

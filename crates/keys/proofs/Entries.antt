@@ -10,10 +10,10 @@ use lib.Dec.{ltb}
 use lib.ListN.{length}
 use Rattle.word.specs.Word.{bytes_of}
 use Rattle.word.specs.Write.{over}
-use Rattle.word.specs.Laws.{length-bytes_of, over_nil}
+use Rattle.word.proofs.Laws.{length-bytes_of, over_nil}
 use Rattle.run.specs.Run as Run
 use Rattle.run.specs.Run.{one, just, picked, rows}
-use Rattle.run.specs.Laws.{one_yes, one_no}
+use Rattle.run.proofs.Laws.{one_yes, one_no}
 use Rattle.run.proofs.Turns.{row-yes, row-no}
 use Rattle.kinds.specs.Report.{number_of}
 use Rattle.kinds.specs.declared.ProfileAnswer.{ProfileAnswer}

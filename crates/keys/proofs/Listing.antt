@@ -9,9 +9,9 @@ use borrow.Author.Tests.{eq-eqb, leb-false, ltb-false}
 use lib.ListN.{length}
 use Rattle.word.specs.Word.{bytes_of}
 use Rattle.word.specs.Write.{over}
-use Rattle.word.specs.Laws.{length-bytes_of, over_nil}
+use Rattle.word.proofs.Laws.{length-bytes_of, over_nil}
 use Rattle.run.specs.Run.{one, just, picked, visits, reach, rows}
-use Rattle.run.specs.Laws.{one_yes, one_no, visits-le, picked-le}
+use Rattle.run.proofs.Laws.{one_yes, one_no, visits-le, picked-le}
 use Rattle.run.proofs.Turns.{row-yes, row-no}
 use Rattle.kinds.specs.Report.{number_of}
 use Rattle.kinds.specs.declared.GetIdsAnswer.{GetIdsAnswer}

@@ -12,7 +12,7 @@ use lib.ListN.{length}
 use Rattle.plain.specs.Tests.{when}
 use Rattle.word.specs.Word.{le, bytes_of, blank, Bytes}
 use Rattle.word.specs.Write.{over, puts, Apart}
-use Rattle.word.specs.Laws.{sizes, length_over, frame, word_same, over_swap, over_again, word_bound, bytes-part}
+use Rattle.word.proofs.Laws.{sizes, length_over, frame, word_same, over_swap, over_again, word_bound, bytes-part}
 use Rattle.run.specs.Run.{picked, each, Every, times}
 use Rattle.promise.specs.Layout.{count_at, size_of, header_at, map_at, trailer_at}
 use Rattle.promise.specs.Counts.{count_of, counts_of}

@@ -15,7 +15,7 @@ use Rattle.plain.specs.Numbers.{lt_or_le}
 use Rattle.plain.specs.Tests.{when}
 use Rattle.word.specs.Write.{puts}
 use Rattle.run.specs.Run.{one, just, picked, all_of, each}
-use Rattle.run.specs.Laws.{picked_few, all_same, picked_none, length-just}
+use Rattle.run.proofs.Laws.{picked_few, all_same, picked_none, length-just}
 use Rattle.run.proofs.Turns.{count_turn, count_end, each_turn, each-yes, each-no}
 use Rattle.promise.specs.Trailer.{clock_set}
 use Rattle.promise.specs.Header.{header_of, is_used, owner_of, expires_of}
@@ -24,7 +24,7 @@ use Rattle.promise.specs.Scavenge.{expired}
 use Rattle.image.proofs.Tallies.{lent_header}
 use Rattle.keys.specs.Marks.{mark_of, marked, marks_of, raised_at, has_count, freed, removed_by, owes, Tallies}
 use Rattle.image.proofs.Lent.{lent}
-use Rattle.run.specs.Tally.{picked_mono, picked_same}
+use Rattle.run.proofs.Tally.{picked_mono, picked_same}
 
 -- ---- the mark of a header
 

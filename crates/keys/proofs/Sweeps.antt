@@ -12,8 +12,8 @@ use Rattle.plain.specs.Tests.{both, neither}
 use Rattle.word.specs.Write.{puts}
 use Rattle.run.specs.Run as Run
 use Rattle.run.specs.Run.{picked, all_of, each, Every, times}
-use Rattle.run.specs.Laws.{all-each, all_same, every_picked}
-use Rattle.run.specs.Tally.{picked_same, times-picked}
+use Rattle.run.proofs.Laws.{all-each, all_same, every_picked}
+use Rattle.run.proofs.Tally.{picked_same, times-picked}
 use Rattle.kinds.specs.Report.{number_of}
 use Rattle.kinds.specs.declared.ScavengeAnswer.{ScavengeAnswer}
 use Rattle.kinds.specs.declared.Report.{Report}
@@ -41,7 +41,7 @@ use Rattle.keys.proofs.Rows.{Refused, in_front, by-numbers, by-headers}
 use Rattle.keys.proofs.Marks.{moved}
 use Rattle.keys.proofs.Lowers.{low, low_agree, lowers, swept}
 use Rattle.word.specs.Word.{Bytes, bytes_of}
-use Rattle.word.specs.Laws.{sizes, length_over}
+use Rattle.word.proofs.Laws.{sizes, length_over}
 use Rattle.promise.proofs.TrailerLaws.{Number}
 use Rattle.promise.specs.Layout.{size_of, trailer_at}
 use Rattle.image.specs.Image.{Laid}

@@ -7,7 +7,7 @@ use mathlib.Core.List.{List}
 use native.Mathlib.Omega.{arith}
 use Rattle.plain.specs.Tests.{was_first, was_second, apart}
 use Rattle.run.specs.Run.{one, visits}
-use Rattle.run.specs.Laws.{one-le}
+use Rattle.run.proofs.Laws.{one-le}
 use Rattle.promise.specs.Counts.{owned_by}
 use Rattle.promise.specs.Keys.{visited_good}
 use Rattle.keys.specs.Visit.{visited_of}

@@ -9,7 +9,7 @@ use native.Mathlib.Omega.{arith}
 use Rattle.plain.specs.Numbers.{lt_or_le}
 use Rattle.plain.specs.Tests.{decide}
 use Rattle.run.specs.Run.{times}
-use Rattle.run.specs.Laws.{one_yes, one_no, one-le, times_append}
+use Rattle.run.proofs.Laws.{one_yes, one_no, one-le, times_append}
 use Rattle.manual.specs.Sets.{Set, ◌∈◌, ◌∉◌}
 use Rattle.manual.specs.Given.{Constants}
 use Rattle.manual.specs.Frames.{StartKey}

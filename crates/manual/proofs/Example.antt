@@ -13,7 +13,7 @@ use lib.Dec.{eqb, ltb}
 use lib.ListN.{get_or}
 use Rattle.plain.specs.Tests.{both}
 use Rattle.run.specs.Run.{one, just, picked, visits, times}
-use Rattle.run.specs.Laws.{one_no}
+use Rattle.run.proofs.Laws.{one_no}
 use Rattle.manual.specs.Sets.{Set, ◌∈◌, ◌∉◌, only, ◌∩◌, ◌∪◌, ◌∖◌, HasSize}
 use Rattle.manual.specs.Given.{SuccessReport}
 use Rattle.manual.specs.State.{Block, Blocks, SS, by, meets, such, dom, owned, expired, put, ◌⩤◌, Invariant}

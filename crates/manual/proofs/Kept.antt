@@ -11,7 +11,7 @@ use lib.Dec.{eqb, ltb}
 use Rattle.plain.specs.Tests.{both}
 use Rattle.plain.specs.Numbers.{lt_or_le}
 use Rattle.run.specs.Run.{times}
-use Rattle.run.specs.Laws.{one_no}
+use Rattle.run.proofs.Laws.{one_no}
 use Rattle.manual.specs.Sets.{Set, ◌∈◌, ◌∉◌, only, ◌∪◌, ◌⊆◌, ◌≈◌, HasSize}
 use Rattle.manual.specs.Given.{Constants, Report}
 use Rattle.manual.specs.State.{Block, Blocks, SS, φBasicParams, dom, meets, put, ◌⩤◌, Invariant, InitSS, later}

@@ -12,8 +12,8 @@ use lib.ListN.{length, length-map}
 use Rattle.plain.specs.Numbers.{lt_or_le}
 use Rattle.plain.specs.Tests.{decide}
 use Rattle.run.specs.Run.{one, just, picked, times}
-use Rattle.run.specs.Laws.{one_yes, one_no, just_yes, just_no, times_append, visits-le, visits-pos, picked-le}
-use Rattle.run.specs.Laws.{picked_few, picked-none-below, picked-none-above, picked_once}
+use Rattle.run.proofs.Laws.{one_yes, one_no, just_yes, just_no, times_append, visits-le, visits-pos, picked-le}
+use Rattle.run.proofs.Laws.{picked_few, picked-none-below, picked-none-above, picked_once}
 use Rattle.manual.specs.Sets.{Set, ◌∈◌, ◌∉◌, ◌≈◌, Lists, HasSize}
 use Rattle.manual.specs.Given.{Constants}
 use Rattle.manual.specs.Frames.{EndKey, φKey}

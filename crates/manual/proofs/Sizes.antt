@@ -11,7 +11,7 @@ use lib.Dec.{eqb}
 use lib.ListN.{length, length-append}
 use Rattle.plain.specs.Tests.{decide, both}
 use Rattle.run.specs.Run.{one, just, times}
-use Rattle.run.specs.Laws.{one_yes, one_no, one-le, just_yes, just_no, length-just, times_append}
+use Rattle.run.proofs.Laws.{one_yes, one_no, one-le, just_yes, just_no, length-just, times_append}
 use Rattle.manual.specs.Sets.{Set, ◌∈◌, ◌∉◌, only, ◌∪◌, ◌∖◌, ◌⊆◌, ◌≈◌, Lists, HasSize, OneSize}
 
 -- ---- one size

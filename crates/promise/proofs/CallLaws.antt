@@ -9,7 +9,7 @@ use borrow.Author.Tests.{eqb-true}
 use Rattle.plain.specs.Tests.{when}
 use Rattle.word.specs.Word.{blank}
 use Rattle.kinds.specs.Report.{number_of}
-use Rattle.kinds.specs.Laws.{injective}
+use Rattle.kinds.proofs.Laws.{injective}
 use Rattle.kinds.specs.declared.CreateAnswer.{CreateAnswer}
 use Rattle.kinds.specs.declared.ReadAnswer.{ReadAnswer}
 use Rattle.kinds.specs.declared.StatusAnswer.{StatusAnswer}

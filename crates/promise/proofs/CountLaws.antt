@@ -9,10 +9,10 @@ use borrow.Author.Tests.{eq-eqb, ne_eqb}
 use lib.Dec.{eqb}
 use lib.ListN.{length}
 use Rattle.word.specs.Word.{part, le, word_at}
-use Rattle.word.specs.Laws.{part-part}
+use Rattle.word.proofs.Laws.{part-part}
 use Rattle.run.specs.Run.{one, picked}
-use Rattle.run.specs.Laws.{one_yes, one_no}
-use Rattle.run.specs.Tally.{picked_changed, picked_fewer, times-picked}
+use Rattle.run.proofs.Laws.{one_yes, one_no}
+use Rattle.run.proofs.Tally.{picked_changed, picked_fewer, times-picked}
 use Rattle.promise.specs.Layout.{count_at}
 use Rattle.promise.specs.Header.{header_of, is_used, owner_of}
 use Rattle.promise.specs.Counts.{count_of, owned_by, owners, owned}

@@ -12,7 +12,7 @@ use lib.Seq.{take_at, drop_at}
 use Rattle.plain.specs.Tests.{except, also, done}
 use Rattle.word.specs.Word.{part, le, word_at, bytes_of, blank, all_zero}
 use Rattle.word.specs.Write.{Apart}
-use Rattle.word.specs.Laws.{le-bytes_of, all_zero-blank}
+use Rattle.word.proofs.Laws.{le-bytes_of, all_zero-blank}
 use Rattle.ident.specs.Ident.{id_of}
 use Rattle.promise.specs.Header.{is_used, used_of, owner_of, id_in, created_of, expires_of, tag_of, header_bytes}
 use Rattle.promise.specs.Header.{used_right}

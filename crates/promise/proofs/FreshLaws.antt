@@ -11,10 +11,10 @@ use lib.Dec.{eqb}
 use lib.ListN.{length, replicate}
 use Rattle.word.specs.Word.{part, le, blank, all_zero, Bytes}
 use Rattle.word.specs.Write.{over, Write, puts, Within, Spares}
-use Rattle.word.specs.Laws.{sizes, length-blank, length-puts, frames, got, part-part, part-replicate, part-blank}
-use Rattle.word.specs.Laws.{all_zero-blank, bytes-over, bytes-replicate, bytes-blank}
+use Rattle.word.proofs.Laws.{sizes, length-blank, length-puts, frames, got, part-part, part-replicate, part-blank}
+use Rattle.word.proofs.Laws.{all_zero-blank, bytes-over, bytes-replicate, bytes-blank}
 use Rattle.run.specs.Run.{all_of, times}
-use Rattle.run.specs.Laws.{all-each, picked_none}
+use Rattle.run.proofs.Laws.{all-each, picked_none}
 use Rattle.promise.specs.Layout.{number_right, map_at, count_at, data_at, trailer_at, size_of}
 use Rattle.promise.specs.Trailer.{trailer_bytes}
 use Rattle.promise.specs.Header.{header_of, is_used, good_header}

@@ -10,7 +10,7 @@ use borrow.Author.Tests.{eq-eqb, ne_eqb, eqb-true}
 use lib.Dec.{eqb}
 use Rattle.plain.specs.Tests.{when}
 use Rattle.tariff.specs.declared.Tariff.{Tariff}
-use Rattle.run.specs.Laws.{visits-le, visits-pos}
+use Rattle.run.proofs.Laws.{visits-le, visits-pos}
 use Rattle.promise.specs.Trailer.{n_of}
 use Rattle.promise.specs.Counts.{owned_by}
 use Rattle.promise.specs.Refusals.{succeeds}

@@ -8,7 +8,7 @@ use native.Mathlib.Omega.{arith}
 use borrow.Author.Tests.{eqb-true, eq-eqb, le-ltb}
 use lib.Dec.{eqb}
 use Rattle.plain.specs.Tests.{both}
-use Rattle.run.specs.Laws.{all-each, each_all}
+use Rattle.run.proofs.Laws.{all-each, each_all}
 use Rattle.promise.specs.Layout.{header_at, map_at, count_at, data_at, trailer_at, size_of}
 use Rattle.promise.specs.Trailer.{n_of, back_to_headers, back_to_map, back_to_counts, back_to_data}
 use Rattle.promise.specs.Header.{header_of, expires_of, later_of}

@@ -12,7 +12,7 @@ use lib.Dec.{leb}
 use Rattle.plain.specs.Numbers.{lt_or_le}
 use Rattle.plain.specs.Tests.{when, both}
 use Rattle.kinds.specs.Report.{number_of}
-use Rattle.kinds.specs.Laws.{injective}
+use Rattle.kinds.proofs.Laws.{injective}
 use Rattle.kinds.specs.declared.Report.{Report}
 use Rattle.promise.specs.Refusals.{Row, lowest, applies, Given}
 

@@ -10,9 +10,9 @@ use lib.ListN.{length}
 use Rattle.plain.specs.Tests.{both}
 use Rattle.word.specs.Word.{part, bytes_of, blank}
 use Rattle.word.specs.Write.{over, puts}
-use Rattle.word.specs.Laws.{sizes, length_over, frame, over_swap}
+use Rattle.word.proofs.Laws.{sizes, length_over, frame, over_swap}
 use Rattle.run.specs.Run.{each, Every}
-use Rattle.run.specs.Laws.{each_both, every_picked, all-each}
+use Rattle.run.proofs.Laws.{each_both, every_picked, all-each}
 use Rattle.promise.specs.Layout.{header_at, map_at, count_at, trailer_at, size_of}
 use Rattle.promise.specs.Trailer.{n_of, clock_set}
 use Rattle.promise.proofs.TrailerLaws.{Number}

@@ -11,8 +11,8 @@ use lib.Dec.{eqb, leb}
 use lib.ListN.{length}
 use Rattle.plain.specs.Tests.{both, nth, also, done}
 use Rattle.word.specs.Word.{part, le, word_at, bytes_of, blank, all_zero, Bytes}
-use Rattle.word.specs.Laws.{length_part, part_whole, part_split, bytes-part, word_bytes, le-bytes_of, zero-blank}
-use Rattle.word.specs.Laws.{all_zero-blank, bytes_append, bytes-bytes_of, bytes-blank}
+use Rattle.word.proofs.Laws.{length_part, part_whole, part_split, bytes-part, word_bytes, le-bytes_of, zero-blank}
+use Rattle.word.proofs.Laws.{all_zero-blank, bytes_append, bytes-bytes_of, bytes-blank}
 use Rattle.promise.specs.Layout.{number_right, trailer_at, size_of}
 use Rattle.promise.specs.Trailer.{trailer_of, n_of, clock_of, back_to_headers, back_to_map, back_to_counts, back_to_data}
 use Rattle.promise.specs.Trailer.{mark, right_trailer, trailer_right, trailer_bytes}

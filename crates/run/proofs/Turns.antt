@@ -10,9 +10,9 @@ use native.Mathlib.Omega.{arith}
 use lib.ListN.{length, length-append}
 use Rattle.plain.specs.Tests.{both}
 use Rattle.word.specs.Write.{over}
-use Rattle.word.specs.Laws.{over_nil, over_append}
+use Rattle.word.proofs.Laws.{over_nil, over_append}
 use Rattle.run.specs.Run.{one, just, picked, all_of, first, visits, rows, each}
-use Rattle.run.specs.Laws.{just_yes, just_no, length-just}
+use Rattle.run.proofs.Laws.{just_yes, just_no, length-just}
 
 less : (m : ℕ) → suc m - 1 ≡ m
 less m = omega arith

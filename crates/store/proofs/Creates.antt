@@ -23,7 +23,7 @@ use Rattle.ident.specs.Ident.{null_id, id_of}
 use Rattle.tariff.specs.Charges.{create_charge}
 use Rattle.tariff.specs.declared.Tariff.{Tariff}
 use Rattle.run.specs.Run.{first}
-use Rattle.run.specs.Laws.{first_passes}
+use Rattle.run.proofs.Laws.{first_passes}
 use Rattle.promise.specs.Trailer.{n_of, clock_of}
 use Rattle.promise.specs.Header.{later_of}
 use Rattle.promise.specs.Map.{free, good}

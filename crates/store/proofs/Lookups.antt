@@ -16,7 +16,7 @@ use Rattle.kinds.specs.declared.Report.{Report}
 use Rattle.kinds.specs.declared.Report.TheVariants.{BadRoom, Damaged, NoSuchBlock, NotOwner}
 use Rattle.kinds.specs.declared.User.{User}
 use Rattle.ident.specs.Ident.{undone, shaped_in}
-use Rattle.ident.specs.Laws.{shaped_below}
+use Rattle.ident.proofs.Laws.{shaped_below}
 use Rattle.promise.specs.Trailer.{n_of, clock_of}
 use Rattle.promise.specs.Header.{header_of, is_used, id_in, owner_of}
 use Rattle.promise.specs.Map.{free, good}

@@ -8,7 +8,7 @@ use native.Mathlib.Omega.{arith}
 use lib.ListN.{length, take, drop}
 use Rattle.word.specs.Word.{part, le}
 use Rattle.word.specs.Write.{Write, puts, Within, Spares}
-use Rattle.word.specs.Laws.{sizes, length_part, length-puts, frames}
+use Rattle.word.proofs.Laws.{sizes, length_part, length-puts, frames}
 use Rattle.kinds.specs.Kinds.{tick}
 use Rattle.kinds.specs.declared.Tick.{Tick}
 use Rattle.promise.specs.Layout.{map_at}

@@ -1,3 +1,4 @@
 pub mod Turns
 pub mod Lent
 pub mod WordBits
+pub mod Laws

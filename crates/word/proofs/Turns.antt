@@ -14,7 +14,7 @@ use lib.ListN.{length, drop, get_or, set, replicate, take-append-drop}
 use lib.Seq.{sets, sets-eq, drop-cons, drop-drop}
 use Rattle.word.specs.Word.{part, le, word_at, bytes_of, all_zero, Bytes}
 use Rattle.word.specs.Write.{over}
-use Rattle.word.specs.Laws.{length_part, part_split, word_bytes, over_whole, over_append}
+use Rattle.word.proofs.Laws.{length_part, part_split, word_bytes, over_whole, over_append}
 
 -- ---- a part, from its first byte on
 

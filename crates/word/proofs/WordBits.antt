@@ -10,7 +10,7 @@ use lib.Pow.{shr-shr, shr_le}
 use Rattle.plain.specs.Numbers.{lt_or_le}
 use Rattle.word.specs.Word.{part, le, word_at, Bytes}
 use Rattle.word.specs.Bits.{byte_bit}
-use Rattle.word.specs.Laws.{get_or-part, bytes-part}
+use Rattle.word.proofs.Laws.{get_or-part, bytes-part}
 use Rattle.word.proofs.Turns.{word_one}
 
 none : (j : ℕ) → 0 / 2 ^ j ≡ 0

@@ -1,4 +1,3 @@
 pub mod Word
 pub mod Write
-pub mod Laws
 pub mod Bits

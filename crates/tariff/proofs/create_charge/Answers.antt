@@ -1,5 +1,5 @@
 -- `tariff::create_charge` meets its contract: the price and the new storage.
-use Rattle.tariff.specs.Laws.{create_diff}
+use Rattle.tariff.proofs.Laws.{create_diff}
 use Rattle.tariff.proofs.create_charge.Goals as goal
 
 pub returns : goal.returns

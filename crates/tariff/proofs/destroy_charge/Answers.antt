@@ -1,5 +1,5 @@
 -- `tariff::destroy_charge` meets its contract: what was paid up to the expiry is given back from now on.
-use Rattle.tariff.specs.Laws.{destroy_diff}
+use Rattle.tariff.proofs.Laws.{destroy_diff}
 use Rattle.tariff.proofs.destroy_charge.Goals as goal
 
 pub returns : goal.returns

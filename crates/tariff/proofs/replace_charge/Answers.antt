@@ -1,5 +1,5 @@
 -- `tariff::replace_charge` meets its contract: of the four terms, those of the time of the call cancel.
-use Rattle.tariff.specs.Laws.{replace_now}
+use Rattle.tariff.proofs.Laws.{replace_now}
 use Rattle.tariff.proofs.replace_charge.Goals as goal
 
 pub returns : goal.returns

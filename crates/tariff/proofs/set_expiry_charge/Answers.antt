@@ -1,5 +1,5 @@
 -- `tariff::set_expiry_charge` meets its contract: the old expiry is given back and the new one paid.
-use Rattle.tariff.specs.Laws.{set_expiry_moved}
+use Rattle.tariff.proofs.Laws.{set_expiry_moved}
 use Rattle.tariff.proofs.set_expiry_charge.Goals as goal
 
 pub returns : goal.returns

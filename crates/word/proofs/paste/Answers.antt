@@ -8,7 +8,7 @@ use borrow.Author.Rules.{rules}
 use lib.ListN.{length}
 use Rattle.word.specs.Word.{part}
 use Rattle.word.specs.Write.{over}
-use Rattle.word.specs.Laws.{length_over, length_part}
+use Rattle.word.proofs.Laws.{length_over, length_part}
 use Rattle.word.proofs.Lent.{lent-rest}
 use Rattle.word.proofs.Turns.{piece_turn}
 use Rattle.word.proofs.paste.Goals as goal

@@ -7,7 +7,7 @@ use native.Mathlib.Omega.{arith}
 use borrow.Author.Rules.{rules}
 use lib.ListN.{length}
 use Rattle.word.specs.Word.{part}
-use Rattle.word.specs.Laws.{length_over, length_part}
+use Rattle.word.proofs.Laws.{length_over, length_part}
 use Rattle.word.proofs.Lent.{lent-rest}
 use Rattle.word.proofs.Turns.{piece_turn}
 use Rattle.word.proofs.paste_rest.Goals as goal

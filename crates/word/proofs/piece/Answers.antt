@@ -7,7 +7,7 @@ use native.Mathlib.Omega.{arith}
 use borrow.Author.Rules.{rules}
 use lib.ListN.{length-set}
 use Rattle.word.specs.Word.{part}
-use Rattle.word.specs.Laws.{length_part}
+use Rattle.word.proofs.Laws.{length_part}
 use Rattle.word.proofs.Turns.{store_one, store_end, part_left, stored_whole}
 use Rattle.word.proofs.piece.Goals as goal
 

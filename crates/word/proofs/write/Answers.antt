@@ -7,7 +7,7 @@ use native.Mathlib.Omega.{arith}
 use borrow.Author.Rules.{rules}
 use lib.ListN.{length-set}
 use Rattle.word.specs.Word.{bytes_of}
-use Rattle.word.specs.Laws.{length-bytes_of}
+use Rattle.word.proofs.Laws.{length-bytes_of}
 use Rattle.word.proofs.Turns.{store_turn, store_end, bytes_of_turn, stored}
 use Rattle.word.proofs.write.Goals as goal
 

@@ -1,6 +1,6 @@
 -- `image::header::good_header` meets its contract, by the map bit.
 use Rattle.std.proofs.Common.{◌∙◌}
-use Rattle.word.specs.Laws.{part_whole}
+use Rattle.word.proofs.Laws.{part_whole}
 use Rattle.image.proofs.Headers.{good-free, good-used}
 use Rattle.image.proofs.header.good_header.Goals as goal
 

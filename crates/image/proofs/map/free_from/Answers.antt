@@ -2,7 +2,7 @@
 -- lowest of those from byte `from` on.
 use Rattle.std.proofs.Common.{refl, ap, ◌∙◌, arith, rules}
 use Rattle.kinds.specs.Kinds.{block_num}
-use Rattle.run.specs.Laws.{first-le}
+use Rattle.run.proofs.Laws.{first-le}
 use Rattle.image.specs.Image.{bit_of}
 use Rattle.image.proofs.Lowest.{one_bits, lowest_turn, lowest-here, lowest_end}
 use Rattle.image.proofs.map.free_from.Goals as goal

@@ -3,7 +3,7 @@
 use Rattle.std.proofs.Common.{ap, ◌∙◌, arith, rules}
 use native.Mathlib.Nat.{sub-zero}
 use Rattle.kinds.specs.Kinds.{block_num}
-use Rattle.run.specs.Laws.{first-le}
+use Rattle.run.proofs.Laws.{first-le}
 use Rattle.image.specs.Image.{bit_of}
 use Rattle.image.proofs.Lowest.{eight_bits, lowest_turn, lowest-here}
 use Rattle.image.proofs.map.lowest_free.Goals as goal

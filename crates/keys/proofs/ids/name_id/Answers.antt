@@ -2,7 +2,7 @@
 use mathlib.Core.Path.{sym, ap, ◌∙◌}
 use native.Mathlib.Omega.{arith}
 use Rattle.kinds.specs.declared.Id.{Id}
-use Rattle.run.specs.Laws.{one_yes}
+use Rattle.run.proofs.Laws.{one_yes}
 use Rattle.promise.specs.Counts.{owned_by}
 use Rattle.keys.proofs.Listing.{not_named, named}
 use Rattle.keys.proofs.ids.name_id.Goals as goal

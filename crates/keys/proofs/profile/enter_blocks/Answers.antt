@@ -3,7 +3,7 @@
 use Prim.Native.Nat.{◌*◌, ◌<◌, ◌≤◌}
 use mathlib.Core.Path.{refl, sym, ◌∙◌}
 use native.Mathlib.Omega.{arith}
-use Rattle.run.specs.Laws.{picked_few}
+use Rattle.run.proofs.Laws.{picked_few}
 use Rattle.run.proofs.Turns.{count_turn, count_end, rows-turn, rows_end}
 use Rattle.promise.specs.Profile.{profile_row}
 use Rattle.keys.specs.Visit.{used}

@@ -1,6 +1,6 @@
 -- `keys::profile::give_profile` meets its contract.
 use native.Mathlib.Omega.{arith}
-use Rattle.run.specs.Laws.{picked_few}
+use Rattle.run.proofs.Laws.{picked_few}
 use Rattle.keys.specs.Visit.{used}
 use Rattle.keys.proofs.profile.give_profile.Goals as goal
 

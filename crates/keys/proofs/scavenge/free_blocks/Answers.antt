@@ -3,7 +3,7 @@
 use Prim.Native.Nat.{◌≤◌, ◌<◌}
 use mathlib.Core.Path.{refl, ◌∙◌}
 use native.Mathlib.Omega.{arith}
-use Rattle.run.specs.Laws.{picked_few}
+use Rattle.run.proofs.Laws.{picked_few}
 use Rattle.run.proofs.Turns.{count_end, each-end}
 use Rattle.keys.specs.Marks.{marked, freed}
 use Rattle.keys.proofs.Marks.{pass_turn, pass_count}

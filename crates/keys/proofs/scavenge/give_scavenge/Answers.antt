@@ -1,6 +1,6 @@
 -- `keys::scavenge::give_scavenge` meets its contract.
 use native.Mathlib.Omega.{arith}
-use Rattle.run.specs.Laws.{picked_few}
+use Rattle.run.proofs.Laws.{picked_few}
 use Rattle.keys.specs.Marks.{marked}
 use Rattle.keys.proofs.scavenge.give_scavenge.Goals as goal
 

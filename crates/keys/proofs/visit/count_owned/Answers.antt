@@ -1,6 +1,6 @@
 -- `keys::visit::count_owned` meets its contract.
 use mathlib.Core.Path.{sym, ◌∙◌}
-use Rattle.run.specs.Laws.{one_yes, one_no}
+use Rattle.run.proofs.Laws.{one_yes, one_no}
 use Rattle.keys.proofs.visit.count_owned.Goals as goal
 
 pub returns-then-is_owned : goal.returns-then-is_owned

@@ -6,7 +6,7 @@ use mathlib.Core.Logic.{⊎_elim}
 use native.Mathlib.Omega.{arith}
 use borrow.Author.Tests.{ltb-true, ltb-false}
 use Rattle.run.specs.Run.{visits}
-use Rattle.run.specs.Laws.{one-le}
+use Rattle.run.proofs.Laws.{one-le}
 use Rattle.run.proofs.Turns.{visits_turn, visits_end, visits_full, visited-turn, visited-stop, all_end}
 use Rattle.promise.specs.Map.{good}
 use Rattle.promise.specs.Counts.{owned_by}

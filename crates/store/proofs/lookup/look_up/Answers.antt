@@ -1,6 +1,6 @@
 -- `store::lookup::look_up` meets its contract.
 use mathlib.Core.Path.{sym, ◌∙◌}
-use Rattle.ident.specs.Laws.{told_unshaped, told_shaped}
+use Rattle.ident.proofs.Laws.{told_unshaped, told_shaped}
 use Rattle.store.proofs.Lookups.{not_shaped}
 use Rattle.store.proofs.lookup.look_up.Goals as goal
 

@@ -12,7 +12,7 @@ use Rattle.std.proofs.Math.Dec.{eqb}
 use Rattle.std.proofs.Math.ListN.{length-append}
 use Rattle.plain.specs.Tests.{decide}
 use Rattle.run.specs.Run.{one, just, picked, times}
-use Rattle.run.specs.Laws.{one_yes, one_no, just_yes, length-just, times_append, picked_few, picked_append}
+use Rattle.run.proofs.Laws.{one_yes, one_no, just_yes, length-just, times_append, picked_few, picked_append}
 
 one_same : (p q : ℕ → Bool) (b : ℕ) → p b ≡ q b → one p b ≡ one q b
 unfolding one
