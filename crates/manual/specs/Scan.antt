@@ -1,6 +1,6 @@
 -- From block numbers to the key-linked operations. Document 01: a call visits the block numbers from the key upward, at
 -- most 64 and not past the last; GetIds also stops as soon as it has named the asked count.
-use Rattle.std.specs.Prelude.{ℕ, ◌+◌, ◌-◌, ◌≤◌, ◌<◌, ◌≡◌, Bool, true, List, map, length}
+use Rattle.std.specs.Prelude.{ℕ, ◌+◌, ◌≤◌, ◌<◌, ◌≡◌, Bool, true, List, map, length}
 use Rattle.std.proofs.Math.Option.{some}
 use Rattle.run.specs.Run as Run
 use Rattle.run.specs.Run.{picked, stride}

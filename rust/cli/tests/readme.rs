@@ -14,7 +14,8 @@ fn text(path: &str) -> String {
 /// Each crate of crates.txt, with the crates that it depends on.
 fn crates() -> BTreeMap<String, Vec<String>> {
     let line = |l: &str| {
-        let (name, rest) = l.split('#').next()?.split_once(':')?;
+        let (head, rest) = l.split('#').next()?.split_once(':')?;
+        let name = head.split_whitespace().next()?;
         Some((name.to_string(), rest.split_whitespace().map(str::to_string).collect()))
     };
     text("crates.txt").lines().filter_map(line).collect()
@@ -83,7 +84,7 @@ fn links_lead_somewhere() {
         "docs/DECISIONS.md",
         "docs/BENCHMARKS.md",
     ];
-    let folders = ["crates/", "rust/", "docs/", "include/", "examples/"];
+    let folders = ["crates/", "rust/", "docs/", "include/", "examples/", "tools/"];
     let mut found = 0;
     for doc in docs {
         let text = text(doc);

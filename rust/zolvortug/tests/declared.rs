@@ -13,7 +13,7 @@ fn text(path: impl AsRef<Path>) -> String {
     fs::read_to_string(&path).unwrap_or_else(|e| panic!("{}: {e}", path.display()))
 }
 
-/// All Rattle files under a folder, one after the other.
+/// All Rattle files under a folder, one after the other, but for what rt keeps in out/.
 fn source(dir: &Path, out: &mut String) {
     let mut names: Vec<_> = fs::read_dir(dir)
         .expect("a folder")
@@ -21,6 +21,9 @@ fn source(dir: &Path, out: &mut String) {
         .collect();
     names.sort();
     for path in names {
+        if path.ends_with("out") {
+            continue;
+        }
         if path.is_dir() {
             source(&path, out);
         } else if path.extension().is_some_and(|e| e == "rt") {
@@ -51,7 +54,7 @@ type Fields = Vec<(String, String)>;
 /// The `#[repr(C)]` structs: name to fields. A tuple struct of one number has the field "0".
 fn structs(text: &str) -> BTreeMap<String, Fields> {
     let mut found = BTreeMap::new();
-    for item in text.split("#[repr(C)]\npub struct ").skip(1) {
+    for item in text.split("#[repr(C)]\n#[derive(Clone, Copy)]\npub struct ").skip(1) {
         let open = item.find(['{', '(']).expect("fields");
         let close = if item[open..].starts_with('{') { '}' } else { ')' };
         let body = &item[open + 1..item.find(close).expect("an end")];
@@ -123,7 +126,7 @@ impl Types {
 
 /// Name, inputs and result of each exported function.
 fn exports(own: &str) -> Vec<(String, String, String)> {
-    let items = own.split("#[no_mangle]\npub extern \"C\" fn ").skip(1);
+    let items = own.split("#[unsafe(no_mangle)]\npub extern \"C\" fn ").skip(1);
     items
         .map(|item| {
             let (name, rest) = item.split_once('(').expect("inputs");
