@@ -28,7 +28,11 @@ fn builds_what_is_old() {
     }
     fs::write(f.path("tree/crates.txt"), "").unwrap();
     script(&f, "tree/zolvortug", include_str!("../../../zolvortug"));
-    script(&f, "tree/tools/make-library", include_str!("../../../tools/make-library"));
+    script(
+        &f,
+        "tree/tools/make-library",
+        include_str!("../../../tools/make-library"),
+    );
     script(&f, "bin/rt", RT);
     script(&f, "bin/cargo", CARGO);
     let run = |setting: &str| {
