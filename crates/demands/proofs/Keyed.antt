@@ -13,7 +13,7 @@ use lib.ListN.{length, length-map}
 use Rattle.plain.specs.Tests.{both}
 use Rattle.word.specs.Write.{over}
 use Rattle.word.specs.Word.{bytes_of}
-use Rattle.word.proofs.Laws.{length-bytes_of, length_over, same}
+use Rattle.word.proofs.Laws.{length-bytes_of, length_over}
 use Rattle.kinds.specs.declared.Report.TheVariants.{Success, NotManager, BadKey}
 use Rattle.ident.proofs.Laws.{id_below}
 use Rattle.tariff.specs.declared.Tariff.{Tariff}
@@ -37,7 +37,6 @@ use Rattle.promise.proofs.CountLaws.{owned-picked}
 use Rattle.promise.proofs.RowLaws.{now_fits, is_later, count_fits}
 use Rattle.promise.proofs.KeyLaws.{ids_move}
 use Rattle.manual.specs.Given.{SuccessReport, BadKeyReport, NotManagerReport}
-use Rattle.manual.specs.Given as goal
 use Rattle.manual.specs.Manager.{info_of}
 use Rattle.manual.specs.State.{SS, φBasicParams}
 use Rattle.manual.specs.Reports as R

@@ -33,7 +33,7 @@ use Rattle.promise.proofs.CountLaws.{owned-picked, owns_some, owns_fewer}
 use Rattle.manual.specs.Sets.{only, ◌≈◌}
 use Rattle.manual.specs.State.{Block, Blocks, put, ◌⩤◌}
 use Rattle.demands.specs.Stored.{holds, blocks}
-use Rattle.demands.proofs.Slots.{Stands, Held, held, most, stands_at}
+use Rattle.demands.proofs.Slots.{Stands, Held, held, stands_at}
 use Rattle.demands.proofs.Change.{Change, change_keeps, Ticked, ticked}
 use Rattle.demands.proofs.Steps.{moving, replacing, placing, Becomes, Fit, moved, replaced, placed}
 use Rattle.demands.proofs.Steps.{removed-change}

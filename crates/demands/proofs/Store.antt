@@ -40,12 +40,10 @@ use Rattle.promise.proofs.CountLaws.{owned-picked, owns_fewer}
 use Rattle.promise.proofs.RowLaws.{now_fits, expiry_fits, is_later, is_block, is_client}
 use Rattle.promise.proofs.TrailerLaws.{right}
 use Rattle.manual.specs.Given.{SuccessReport, NoSpaceReport, NoSuchBlockReport, NotOwnerReport}
-use Rattle.manual.specs.Given as goal
 use Rattle.manual.specs.Sets.{◌∈◌, only, HasSize}
 use Rattle.manual.specs.State.{Block, such, dom, ◌⩤◌, φBasicParams}
 use Rattle.manual.specs.Reports as R
 use R.{◌⊕◌}
-use Rattle.manual.specs.Given as goal
 use Rattle.manual.specs.Reports as R
 use R.{◌⊕◌}
 use Rattle.manual.proofs.Maps.{either}

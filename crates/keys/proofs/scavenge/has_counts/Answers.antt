@@ -3,7 +3,6 @@
 use mathlib.Core.Path.{refl, sym, ◌∙◌}
 use borrow.Author.Rules.{rules}
 use Rattle.run.proofs.Turns.{all_turn, all_stop, all_end}
-use Rattle.keys.specs.Marks.{has_count}
 use Rattle.keys.proofs.scavenge.has_counts.Goals as goal
 
 pub loop-left-init : goal.loop-left-init

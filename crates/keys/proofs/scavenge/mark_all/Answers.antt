@@ -1,6 +1,5 @@
 -- `keys::scavenge::mark_all` meets its contract. The invariant: the marks made so far are right, and the tally with
 -- those that are left is that of all.
-use Prim.Native.Nat.{◌-◌}
 use mathlib.Core.Path.{refl, ◌∙◌}
 use native.Mathlib.Omega.{arith}
 use lib.ListN.{length-set}

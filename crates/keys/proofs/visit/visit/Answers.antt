@@ -1,10 +1,9 @@
 -- `keys::visit::visit` meets its contract. The invariant: what was passed, with what is still visited from here, is
 -- what is visited in all; and those still to visit are all good where all are.
-use Prim.Native.Nat.{◌≤◌, ◌<◌, ◌-◌}
+use Prim.Native.Nat.{◌<◌}
 use mathlib.Core.Path.{◌≡◌, refl, sym, ◌∙◌}
-use mathlib.Core.Logic.{⊎_elim}
 use native.Mathlib.Omega.{arith}
-use borrow.Author.Tests.{ltb-true, ltb-false}
+use borrow.Author.Tests.{ltb-true}
 use Rattle.run.specs.Run.{visits}
 use Rattle.run.proofs.Laws.{one-le}
 use Rattle.run.proofs.Turns.{visits_turn, visits_end, visits_full, visited-turn, visited-stop, all_end}
