@@ -2,6 +2,7 @@
 use crate::rows::Total;
 use crate::{rows, text};
 use kinds::{Money, Receipt, Tick, User, Walk};
+use std::io;
 use tariff::Tariff;
 
 // What each byte of a buffer is before a call.
@@ -190,39 +191,47 @@ fn poke(img: &mut [u8], at: u64, v: u64) {
 }
 
 // A call on a copy of the store, what it answers and what it changes.
-fn row(total: Total, letter: u8, n: [u64; 16], store: &[u8], img: &mut [u8]) -> Total {
+fn row(
+    rt: &impl Print,
+    total: Total,
+    letter: u8,
+    n: [u64; 16],
+    store: &[u8],
+    img: &mut [u8],
+) -> io::Result<Total> {
     let mut buffer = [FILL; 1600];
     copy(img, store);
     let mut seen = lent(letter, n, &mut buffer, img);
     seen[4] = differ(img, store);
     seen[5] = written(&buffer);
-    rows::compare(total, text::expected(n), seen)
+    rows::compare(rt, total, text::expected(n), seen)
 }
 
 // The end of a line that is no row.
-fn end_line(total: Total) -> Total {
-    rows::write(b"\n");
-    total
+fn end_line(rt: &impl Print, total: Total) -> io::Result<Total> {
+    rt.print("\n")?;
+    Ok(total)
 }
 
 // A line: a call; a byte of the store is made another; the store becomes the last call's copy of it; or only text.
 pub(crate) fn line(
+    rt: &impl Print,
     total: Total,
     letter: u8,
     n: [u64; 16],
     store: &mut [u8],
     img: &mut [u8],
-) -> Total {
+) -> io::Result<Total> {
     match letter {
-        b'G' | b'S' | b'P' | b'N' | b'E' => row(total, letter, n, store, img),
+        b'G' | b'S' | b'P' | b'N' | b'E' => row(rt, total, letter, n, store, img),
         b'B' => {
             poke(store, n[0], n[1]);
-            end_line(total)
+            end_line(rt, total)
         }
         b'K' => {
             copy(store, img);
-            end_line(total)
+            end_line(rt, total)
         }
-        _ => end_line(total),
+        _ => end_line(rt, total),
     }
 }

@@ -7,6 +7,8 @@ ghost use Rattle.std.specs.Prelude.{◌≡◌, length};
 
 use kinds::{Tick, User};
 use rows::Total;
+use std::io;
+use std::io::Read;
 
 mod calls;
 mod model;
@@ -26,8 +28,8 @@ fn make_block(b: u64, img: &mut [u8]) {
     if 65 < b {
         client = 5;
     }
-    let time = std::num::wrapping_add_u64(b, 1);
-    let expires = std::num::wrapping_add_u64(b, 1000);
+    let time = b.wrapping_add(1);
+    let expires = b.wrapping_add(1000);
     store::create::create(
         calls::prices(),
         User(client),
@@ -49,39 +51,45 @@ fn make_store(img: &mut [u8]) {
 }
 
 // A walk, with a model of its own.
-fn walk(total: Total, n: [u64; 16], room: &mut [u8]) -> Total {
+fn walk(rt: &impl Print, total: Total, n: [u64; 16], room: &mut [u8]) -> io::Result<Total> {
     let mut model = [0u64; 16384];
-    walks::row(total, n, &mut model, room)
+    walks::row(rt, total, n, &mut model, room)
 }
 
-fn line(total: Total, words: &[u8], store: &mut [u8], room: &mut [u8]) -> Total {
-    rows::write(words);
+fn line(
+    rt: &impl Print,
+    total: Total,
+    words: &[u8],
+    store: &mut [u8],
+    room: &mut [u8],
+) -> io::Result<Total> {
+    rows::write(rt, words)?;
     if words.len() == 0 {
-        return total;
+        return Ok(total);
     }
     let letter = words[0];
     let n = text::numbers(words);
     if letter == b'W' {
-        return walk(total, n, room);
+        return walk(rt, total, n, room);
     }
-    calls::line(total, letter, n, store, room)
+    calls::line(rt, total, letter, n, store, room)
 }
 
-fn lines(cases: &[u8], store: &mut [u8], room: &mut [u8]) -> Total {
+fn lines(rt: &impl Print, cases: &[u8], store: &mut [u8], room: &mut [u8]) -> io::Result<Total> {
     let mut total = Total { rows: 0, differ: 0 };
     let mut at: usize = 0;
     while at < cases.len() {
         let end = text::line_end(cases, at);
         if end < at {
-            return total;
+            return Ok(total);
         }
         if cases.len() <= end {
-            return total;
+            return Ok(total);
         }
-        total = line(total, &cases[at..end], store, room);
+        total = line(rt, total, &cases[at..end], store, room)?;
         at = end + 1;
     }
-    total
+    Ok(total)
 }
 
 // Zeros; the promise gives the length, which lending them as a slice needs.
@@ -97,14 +105,14 @@ fn blank_store() -> [u8; STORE]
     [0; STORE]
 }
 
-fn main() {
-    let mut cases = io::large_buffer();
-    let size = io::read_full(0, &mut cases);
+fn main(rt: HostRuntime) -> io::Result<()> {
+    let mut cases = Vec::new(rt.alloc());
+    rt.reader().read_to_end(&mut cases)?;
     let mut room = zeros();
     let mut store = blank_store();
     make_store(&mut store);
-    let total = lines(&cases[..size], &mut store, &mut room);
-    rows::field(b"", total.rows as u64);
-    rows::field(b" rows, ", total.differ as u64);
-    rows::write(b" differ\n");
+    let total = lines(&rt, &cases, &mut store, &mut room)?;
+    rows::field(&rt, "", total.rows as u64)?;
+    rows::field(&rt, " rows, ", total.differ as u64)?;
+    rt.print(" differ\n")
 }

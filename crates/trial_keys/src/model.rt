@@ -68,7 +68,7 @@ pub(crate) fn scavenge(model: &mut [u64], key: usize, to: usize, time: u64) -> u
     let mut count: u32 = 0;
     let mut b = key;
     while b < to {
-        count = std::num::wrapping_add_u32(count, expire(model, b, time));
+        count = count.wrapping_add(expire(model, b, time));
         b += 1;
     }
     count
@@ -89,7 +89,7 @@ pub(crate) fn marked(model: &[u64], n: usize, client: u64, mark: u64) -> u64 {
     let mut b: usize = 0;
     while b < n {
         if get(model, b, OWNER) == client && get(model, b, MARK) == mark {
-            count = std::num::wrapping_add_u64(count, 1);
+            count = count.wrapping_add(1);
         }
         b += 1;
     }

@@ -1,5 +1,6 @@
 // Rows of what is written: a line of the case file, which says what ran and what is expected; then what is seen.
-use libc::STDOUT_FILENO;
+use std::io;
+use std::io::Write;
 
 // Rows written, and how many of them differ.
 #[derive(Clone, Copy)]
@@ -8,40 +9,45 @@ pub(crate) struct Total {
     pub differ: u32,
 }
 
-pub(crate) fn write(bytes: &[u8]) {
-    io::write_all(STDOUT_FILENO, bytes);
+pub(crate) fn write(rt: &impl Print, bytes: &[u8]) -> io::Result<()> {
+    io::writer(rt).write_all(bytes)
 }
 
 // A word and a number.
-pub(crate) fn field(name: &[u8], v: u64) {
-    write(name);
-    io::print_decimal(STDOUT_FILENO, v);
+pub(crate) fn field(rt: &impl Print, name: &str, v: u64) -> io::Result<()> {
+    rt.print(name)?;
+    rt.print(v)
 }
 
 // Writes what is seen; 1 where it differs from what is expected, else 0.
-fn say_seen(expected: [u64; 7], seen: [u64; 7]) -> u32 {
+fn say_seen(rt: &impl Print, expected: [u64; 7], seen: [u64; 7]) -> io::Result<u32> {
     let mut differ: u32 = 0;
     let mut i: usize = 0;
     while i < 7 {
-        field(b" ", seen[i]);
+        field(rt, " ", seen[i])?;
         if seen[i] != expected[i] {
             differ = 1;
         }
         i += 1;
     }
-    differ
+    Ok(differ)
 }
 
 // The end of a row, with a mark where it differs; the rows then.
-pub(crate) fn compare(total: Total, expected: [u64; 7], seen: [u64; 7]) -> Total {
-    write(b" |");
-    let differ = say_seen(expected, seen);
+pub(crate) fn compare(
+    rt: &impl Print,
+    total: Total,
+    expected: [u64; 7],
+    seen: [u64; 7],
+) -> io::Result<Total> {
+    rt.print(" |")?;
+    let differ = say_seen(rt, expected, seen)?;
     if 0 < differ {
-        write(b" DIFFERS");
+        rt.print(" DIFFERS")?;
     }
-    write(b"\n");
-    Total {
-        rows: std::num::wrapping_add_u32(total.rows, 1),
-        differ: std::num::wrapping_add_u32(total.differ, differ),
-    }
+    rt.print("\n")?;
+    Ok(Total {
+        rows: total.rows.wrapping_add(1),
+        differ: total.differ.wrapping_add(differ),
+    })
 }

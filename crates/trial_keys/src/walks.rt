@@ -3,6 +3,7 @@ use crate::calls::{prices, small};
 use crate::rows::Total;
 use crate::{calls, model, rows, text};
 use kinds::{Id, Receipt, Tick, User, Walk};
+use std::io;
 
 // What is counted of a walk: the seven numbers of its row, what is told beside them, and the trial's own state.
 const ENDED: usize = 0;
@@ -34,7 +35,7 @@ const SWEEP: usize = 12;
 // One more of what is counted.
 fn count(tale: &mut [u64; 16], i: usize) {
     if i < 16 {
-        tale[i] = std::num::wrapping_add_u64(tale[i], 1);
+        tale[i] = tale[i].wrapping_add(1);
     }
 }
 
@@ -61,9 +62,9 @@ fn pick(n: usize, tale: &mut [u64; 16]) -> usize {
 fn expiry(n: usize, time: u64, tale: &mut [u64; 16]) -> u64 {
     let d = draw(tale);
     if n == 8 {
-        return std::num::wrapping_add_u64(time, d % 32);
+        return time.wrapping_add(d % 32);
     }
-    std::num::wrapping_add_u64(time, d % 16384)
+    time.wrapping_add(d % 16384)
 }
 
 // A report that the model does not expect is counted.
@@ -199,7 +200,7 @@ fn name(n: usize, id: u64, tale: &mut [u64; 16], m: &mut [u64]) {
         count(tale, TWICE);
         return;
     }
-    model::put(m, b, model::MARK, std::num::wrapping_add_u64(mark, 1));
+    model::put(m, b, model::MARK, mark.wrapping_add(1));
     if (b as u64) < tale[LAST] {
         count(tale, FALLING);
     }
@@ -293,29 +294,36 @@ fn size_of(n: usize) -> usize {
 }
 
 // What is told of a walk beside its row.
-fn say(n: usize, tale: &[u64; 16], m: &[u64]) {
-    rows::field(b" (calls ", tale[CALLS]);
-    rows::field(b" named ", tale[NAMED]);
+fn say(rt: &impl Print, n: usize, tale: &[u64; 16], m: &[u64]) -> io::Result<()> {
+    rows::field(rt, " (calls ", tale[CALLS])?;
+    rows::field(rt, " named ", tale[NAMED])?;
     rows::field(
-        b" stood ",
-        std::num::wrapping_add_u64(tale[MISSED], model::marked(m, n, 3, 3)),
-    );
-    rows::write(b")");
+        rt,
+        " stood ",
+        tale[MISSED].wrapping_add(model::marked(m, n, 3, 3)),
+    )?;
+    rt.print(")")
 }
 
 // The row of a walk: its numbers are N, count, changes after a step, blocks at first, seed; then what is expected.
-pub(crate) fn row(total: Total, p: [u64; 16], m: &mut [u64], room: &mut [u8]) -> Total {
+pub(crate) fn row(
+    rt: &impl Print,
+    total: Total,
+    p: [u64; 16],
+    m: &mut [u64],
+    room: &mut [u8],
+) -> io::Result<Total> {
     let mut tale = [0u64; 16];
     let n = p[0] as usize;
     let size = size_of(n);
     if room.len() < size {
-        return total;
+        return Ok(total);
     }
     tale[SEED] = p[4];
     walk_through(n, p, &mut tale, m, &mut room[..size]);
-    say(n, &tale, m);
+    say(rt, n, &tale, m)?;
     let seen = [
         tale[0], tale[1], tale[2], tale[3], tale[4], tale[5], tale[6],
     ];
-    rows::compare(total, text::expected(p), seen)
+    rows::compare(rt, total, text::expected(p), seen)
 }
