@@ -19,6 +19,9 @@ mod walks;
 // The size of an image of 4,096 blocks.
 const ROOM: usize = 2360832;
 
+// The most bytes of a case file that are read.
+const CASES: u64 = 65_536;
+
 // The size of an image of 72 blocks.
 const STORE: usize = 43008;
 
@@ -107,7 +110,7 @@ fn blank_store() -> [u8; STORE]
 
 fn main(rt: HostRuntime) -> io::Result<()> {
     let mut cases = Vec::new(rt.alloc());
-    rt.reader().read_to_end(&mut cases)?;
+    rt.reader().take(CASES).read_to_end(&mut cases)?;
     let mut room = zeros();
     let mut store = blank_store();
     make_store(&mut store);
