@@ -6,38 +6,38 @@
 ghost use Rattle.std.specs.Prelude.{◌≡◌, length};
 
 use kinds::{BlockNum, Tick};
-use libc::STDOUT_FILENO;
+use std::io;
 
 // The size of an image of 4,104 blocks, were there one.
 const ROOM: usize = 2365440;
 
-fn write(bytes: &[u8]) {
-    io::write_all(STDOUT_FILENO, bytes);
+fn write(rt: &impl Print, text: &str) -> io::Result<()> {
+    rt.print(text)
 }
 
 // A row with a yes or a no.
-fn say(head: &[u8], answer: bool, what: &[u8]) {
-    write(head);
+fn say(rt: &impl Print, head: &str, answer: bool, what: &str) -> io::Result<()> {
+    write(rt, head)?;
     if answer {
-        write(b"yes  ");
+        write(rt, "yes  ")?;
     } else {
-        write(b"no   ");
+        write(rt, "no   ")?;
     }
-    write(what);
-    write(b"\n");
+    write(rt, what)?;
+    write(rt, "\n")
 }
 
-fn say_check(img: &[u8], what: &[u8]) {
-    say(b"Check   ", image::sound::check(img), what);
+fn say_check(rt: &impl Print, img: &[u8], what: &str) -> io::Result<()> {
+    say(rt, "Check   ", image::sound::check(img), what)
 }
 
-fn say_format(n: u32, img: &mut [u8], what: &[u8]) {
+fn say_format(rt: &impl Print, n: u32, img: &mut [u8], what: &str) -> io::Result<()> {
     let report = image::format::format(n, img);
-    write(b"Format  ");
-    io::print_decimal(STDOUT_FILENO, kinds::number(report) as u64);
-    write(b"    ");
-    write(what);
-    write(b"\n");
+    write(rt, "Format  ")?;
+    rt.print(kinds::number(report))?;
+    write(rt, "    ")?;
+    write(rt, what)?;
+    write(rt, "\n")
 }
 
 // Makes each byte v.
@@ -59,34 +59,35 @@ fn all_are(img: &[u8], v: u8) -> bool {
 }
 
 // Format on bytes that are all 7; whether they still are; and what Check says then.
-fn formatted(n: u32, img: &mut [u8], what: &[u8]) {
+fn formatted(rt: &impl Print, n: u32, img: &mut [u8], what: &str) -> io::Result<()> {
     fill(img, 7);
-    say_format(n, img, what);
-    say(b"Kept    ", all_are(img, 7), what);
-    say_check(img, what);
+    say_format(rt, n, img, what)?;
+    say(rt, "Kept    ", all_are(img, 7), what)?;
+    say_check(rt, img, what)
 }
 
 // The same, on the first bytes of the room.
-fn sized(n: u32, room: &mut [u8], size: usize, what: &[u8]) {
+fn sized(rt: &impl Print, n: u32, room: &mut [u8], size: usize, what: &str) -> io::Result<()> {
     if size <= room.len() {
-        formatted(n, &mut room[..size], what);
+        formatted(rt, n, &mut room[..size], what)?;
     }
+    Ok(())
 }
 
 // Each N with the size that fits it.
-fn numbers(room: &mut [u8]) {
-    sized(8, room, 6144, b"N 8, 6144 bytes");
-    sized(4096, room, 2360832, b"N 4096, 2360832 bytes");
-    sized(0, room, 1536, b"N 0, 1536 bytes");
-    sized(12, room, 8448, b"N 12, 8448 bytes");
-    sized(4104, room, 2365440, b"N 4104, 2365440 bytes");
+fn numbers(rt: &impl Print, room: &mut [u8]) -> io::Result<()> {
+    sized(rt, 8, room, 6144, "N 8, 6144 bytes")?;
+    sized(rt, 4096, room, 2360832, "N 4096, 2360832 bytes")?;
+    sized(rt, 0, room, 1536, "N 0, 1536 bytes")?;
+    sized(rt, 12, room, 8448, "N 12, 8448 bytes")?;
+    sized(rt, 4104, room, 2365440, "N 4104, 2365440 bytes")
 }
 
 // A right N with sizes that do not fit it.
-fn sizes(room: &mut [u8]) {
-    sized(8, room, 6143, b"N 8, 6143 bytes");
-    sized(8, room, 6145, b"N 8, 6145 bytes");
-    sized(8, room, 0, b"N 8, no bytes");
+fn sizes(rt: &impl Print, room: &mut [u8]) -> io::Result<()> {
+    sized(rt, 8, room, 6143, "N 8, 6143 bytes")?;
+    sized(rt, 8, room, 6145, "N 8, 6145 bytes")?;
+    sized(rt, 8, room, 0, "N 8, no bytes")
 }
 
 // A byte of the image is made v.
@@ -125,164 +126,166 @@ fn take_block(img: &mut [u8]) {
 }
 
 // What Check says with `by` added to one byte, modulo 256. The byte is restored.
-fn probe(img: &mut [u8], at: usize, by: u8, what: &[u8]) {
+fn probe(rt: &impl Print, img: &mut [u8], at: usize, by: u8, what: &str) -> io::Result<()> {
     if img.len() <= at {
-        return;
+        return Ok(());
     }
     let old = img[at];
-    img[at] = std::num::wrapping_add_u8(old, by);
-    say_check(img, what);
+    img[at] = old.wrapping_add(by);
+    say_check(rt, img, what)?;
     img[at] = old;
+    Ok(())
 }
 
-fn probe_shape(img: &mut [u8]) {
-    probe(img, 0, 255, b"used is 0");
-    probe(img, 0, 1, b"used is 2");
-    probe(img, 1, 1, b"owner is 4");
-    probe(img, 1, 61, b"owner is 64");
+fn probe_shape(rt: &impl Print, img: &mut [u8]) -> io::Result<()> {
+    probe(rt, img, 0, 255, "used is 0")?;
+    probe(rt, img, 0, 1, "used is 2")?;
+    probe(rt, img, 1, 1, "owner is 4")?;
+    probe(rt, img, 1, 61, "owner is 64")
 }
 
-fn probe_zeros(img: &mut [u8]) {
-    probe(img, 2, 1, b"first of the header's 6 zero bytes");
-    probe(img, 7, 128, b"last of the header's 6 zero bytes");
-    probe(img, 48, 1, b"first of the header's 16 zero bytes");
-    probe(img, 63, 128, b"last of the header's 16 zero bytes");
+fn probe_zeros(rt: &impl Print, img: &mut [u8]) -> io::Result<()> {
+    probe(rt, img, 2, 1, "first of the header's 6 zero bytes")?;
+    probe(rt, img, 7, 128, "last of the header's 6 zero bytes")?;
+    probe(rt, img, 48, 1, "first of the header's 16 zero bytes")?;
+    probe(rt, img, 63, 128, "last of the header's 16 zero bytes")
 }
 
-fn probe_id_created(img: &mut [u8]) {
-    probe(img, 8, 1, b"first byte of the id");
-    probe(img, 15, 128, b"last byte of the id");
-    probe(img, 16, 255, b"created is 0");
-    probe(img, 16, 1, b"created is 2, above the clock");
+fn probe_id_created(rt: &impl Print, img: &mut [u8]) -> io::Result<()> {
+    probe(rt, img, 8, 1, "first byte of the id")?;
+    probe(rt, img, 15, 128, "last byte of the id")?;
+    probe(rt, img, 16, 255, "created is 0")?;
+    probe(rt, img, 16, 1, "created is 2, above the clock")
 }
 
-fn probe_expires(img: &mut [u8]) {
-    probe(img, 24, 251, b"expires is 0");
-    probe(img, 29, 1, b"expires is 2^40 + 5");
-    probe(img, 24, 1, b"expires is 6");
+fn probe_expires(rt: &impl Print, img: &mut [u8]) -> io::Result<()> {
+    probe(rt, img, 24, 251, "expires is 0")?;
+    probe(rt, img, 29, 1, "expires is 2^40 + 5")?;
+    probe(rt, img, 24, 1, "expires is 6")
 }
 
-fn probe_tag(img: &mut [u8]) {
-    probe(img, 32, 1, b"first byte of the tag");
-    probe(img, 47, 128, b"last byte of the tag");
+fn probe_tag(rt: &impl Print, img: &mut [u8]) -> io::Result<()> {
+    probe(rt, img, 32, 1, "first byte of the tag")?;
+    probe(rt, img, 47, 128, "last byte of the tag")
 }
 
-fn probe_free(img: &mut [u8]) {
-    probe(img, 64, 1, b"first byte of a free header");
-    probe(img, 96, 1, b"first tag byte of a free header");
-    probe(img, 511, 128, b"last byte of the last free header");
+fn probe_free(rt: &impl Print, img: &mut [u8]) -> io::Result<()> {
+    probe(rt, img, 64, 1, "first byte of a free header")?;
+    probe(rt, img, 96, 1, "first tag byte of a free header")?;
+    probe(rt, img, 511, 128, "last byte of the last free header")
 }
 
-fn probe_map(img: &mut [u8]) {
-    probe(img, 512, 1, b"map bit of the used block");
-    probe(img, 512, 254, b"map bit of a free block");
-    probe(img, 512, 128, b"map bit of the last free block");
-    probe(img, 513, 1, b"first spare bit");
-    probe(img, 1023, 128, b"last spare bit");
+fn probe_map(rt: &impl Print, img: &mut [u8]) -> io::Result<()> {
+    probe(rt, img, 512, 1, "map bit of the used block")?;
+    probe(rt, img, 512, 254, "map bit of a free block")?;
+    probe(rt, img, 512, 128, "map bit of the last free block")?;
+    probe(rt, img, 513, 1, "first spare bit")?;
+    probe(rt, img, 1023, 128, "last spare bit")
 }
 
-fn probe_counts(img: &mut [u8]) {
-    probe(img, 1048, 255, b"count of client 3 is 0");
-    probe(img, 1048, 1, b"count of client 3 is 2");
-    probe(img, 1055, 128, b"last byte of the count of client 3");
-    probe(img, 1024, 1, b"count of client 0 is 1");
-    probe(img, 1528, 1, b"count of client 63 is 1");
+fn probe_counts(rt: &impl Print, img: &mut [u8]) -> io::Result<()> {
+    probe(rt, img, 1048, 255, "count of client 3 is 0")?;
+    probe(rt, img, 1048, 1, "count of client 3 is 2")?;
+    probe(rt, img, 1055, 128, "last byte of the count of client 3")?;
+    probe(rt, img, 1024, 1, "count of client 0 is 1")?;
+    probe(rt, img, 1528, 1, "count of client 63 is 1")
 }
 
-fn probe_data(img: &mut [u8]) {
-    probe(img, 1536, 1, b"first byte of the data");
-    probe(img, 5631, 128, b"last byte of the data");
+fn probe_data(rt: &impl Print, img: &mut [u8]) -> io::Result<()> {
+    probe(rt, img, 1536, 1, "first byte of the data")?;
+    probe(rt, img, 5631, 128, "last byte of the data")
 }
 
-fn probe_numbers(img: &mut [u8]) {
-    probe(img, 5632, 8, b"N is 16");
-    probe(img, 5632, 1, b"N is 9");
+fn probe_numbers(rt: &impl Print, img: &mut [u8]) -> io::Result<()> {
+    probe(rt, img, 5632, 8, "N is 16")?;
+    probe(rt, img, 5632, 1, "N is 9")
 }
 
-fn probe_distances(img: &mut [u8]) {
-    probe(img, 5636, 1, b"distance to the headers is 12");
-    probe(img, 5640, 1, b"distance to the map is 11");
-    probe(img, 5644, 1, b"distance to the counts is 10");
-    probe(img, 5648, 1, b"distance to the data is 9");
+fn probe_distances(rt: &impl Print, img: &mut [u8]) -> io::Result<()> {
+    probe(rt, img, 5636, 1, "distance to the headers is 12")?;
+    probe(rt, img, 5640, 1, "distance to the map is 11")?;
+    probe(rt, img, 5644, 1, "distance to the counts is 10")?;
+    probe(rt, img, 5648, 1, "distance to the data is 9")
 }
 
-fn probe_between(img: &mut [u8]) {
-    probe(img, 5652, 1, b"first of the trailer's 4 zero bytes");
-    probe(img, 5655, 128, b"last of the trailer's 4 zero bytes");
+fn probe_between(rt: &impl Print, img: &mut [u8]) -> io::Result<()> {
+    probe(rt, img, 5652, 1, "first of the trailer's 4 zero bytes")?;
+    probe(rt, img, 5655, 128, "last of the trailer's 4 zero bytes")
 }
 
-fn probe_clock(img: &mut [u8]) {
-    probe(img, 5656, 255, b"clock is 0, below created");
-    probe(img, 5656, 1, b"clock is 2");
-    probe(img, 5661, 1, b"clock is 2^40 + 1");
-    probe(img, 5664, 1, b"first of the trailer's 476 zero bytes");
-    probe(img, 6139, 128, b"last of the trailer's 476 zero bytes");
+fn probe_clock(rt: &impl Print, img: &mut [u8]) -> io::Result<()> {
+    probe(rt, img, 5656, 255, "clock is 0, below created")?;
+    probe(rt, img, 5656, 1, "clock is 2")?;
+    probe(rt, img, 5661, 1, "clock is 2^40 + 1")?;
+    probe(rt, img, 5664, 1, "first of the trailer's 476 zero bytes")?;
+    probe(rt, img, 6139, 128, "last of the trailer's 476 zero bytes")
 }
 
-fn probe_mark(img: &mut [u8]) {
-    probe(img, 6140, 1, b"first byte of the mark");
-    probe(img, 6141, 1, b"second byte of the mark");
-    probe(img, 6142, 1, b"third byte of the mark");
-    probe(img, 6143, 1, b"last byte of the mark");
+fn probe_mark(rt: &impl Print, img: &mut [u8]) -> io::Result<()> {
+    probe(rt, img, 6140, 1, "first byte of the mark")?;
+    probe(rt, img, 6141, 1, "second byte of the mark")?;
+    probe(rt, img, 6142, 1, "third byte of the mark")?;
+    probe(rt, img, 6143, 1, "last byte of the mark")
 }
 
 // Format refuses and leaves a sound image with a used block as it is.
-fn still_sound(img: &mut [u8]) {
-    say_format(16, img, b"N 16 on the image of 8 blocks");
-    say_check(img, b"the image after that");
+fn still_sound(rt: &impl Print, img: &mut [u8]) -> io::Result<()> {
+    say_format(rt, 16, img, "N 16 on the image of 8 blocks")?;
+    say_check(rt, img, "the image after that")
 }
 
-fn damage_headers(img: &mut [u8]) {
-    probe_shape(img);
-    probe_zeros(img);
-    probe_id_created(img);
-    probe_expires(img);
-    probe_tag(img);
-    probe_free(img);
+fn damage_headers(rt: &impl Print, img: &mut [u8]) -> io::Result<()> {
+    probe_shape(rt, img)?;
+    probe_zeros(rt, img)?;
+    probe_id_created(rt, img)?;
+    probe_expires(rt, img)?;
+    probe_tag(rt, img)?;
+    probe_free(rt, img)
 }
 
-fn damage_rest(img: &mut [u8]) {
-    probe_map(img);
-    probe_counts(img);
-    probe_data(img);
+fn damage_rest(rt: &impl Print, img: &mut [u8]) -> io::Result<()> {
+    probe_map(rt, img)?;
+    probe_counts(rt, img)?;
+    probe_data(rt, img)
 }
 
-fn damage_trailer(img: &mut [u8]) {
-    probe_numbers(img);
-    probe_distances(img);
-    probe_between(img);
-    probe_clock(img);
-    probe_mark(img);
+fn damage_trailer(rt: &impl Print, img: &mut [u8]) -> io::Result<()> {
+    probe_numbers(rt, img)?;
+    probe_distances(rt, img)?;
+    probe_between(rt, img)?;
+    probe_clock(rt, img)?;
+    probe_mark(rt, img)
 }
 
 // Check on the first bytes of an image.
-fn say_cut(img: &[u8], size: usize, what: &[u8]) {
+fn say_cut(rt: &impl Print, img: &[u8], size: usize, what: &str) -> io::Result<()> {
     if size <= img.len() {
-        say_check(&img[..size], what);
+        say_check(rt, &img[..size], what)?;
     }
+    Ok(())
 }
 
-fn cuts(img: &[u8]) {
-    say_cut(img, 6143, b"its last byte cut off");
-    say_cut(img, 511, b"its first 511 bytes");
-    say_cut(img, 0, b"no bytes");
+fn cuts(rt: &impl Print, img: &[u8]) -> io::Result<()> {
+    say_cut(rt, img, 6143, "its last byte cut off")?;
+    say_cut(rt, img, 511, "its first 511 bytes")?;
+    say_cut(rt, img, 0, "no bytes")
 }
 
-fn damages(img: &mut [u8]) {
-    say_check(img, b"one used block");
-    damage_headers(img);
-    damage_rest(img);
-    damage_trailer(img);
-    say_check(img, b"all bytes restored");
+fn damages(rt: &impl Print, img: &mut [u8]) -> io::Result<()> {
+    say_check(rt, img, "one used block")?;
+    damage_headers(rt, img)?;
+    damage_rest(rt, img)?;
+    damage_trailer(rt, img)?;
+    say_check(rt, img, "all bytes restored")
 }
 
 // An image of 8 blocks with one of them used.
-fn one_block(img: &mut [u8]) {
+fn one_block(rt: &impl Print, img: &mut [u8]) -> io::Result<()> {
     image::format::format(8, img);
     take_block(img);
-    damages(img);
-    still_sound(img);
-    cuts(img);
+    damages(rt, img)?;
+    still_sound(rt, img)?;
+    cuts(rt, img)
 }
 
 // Zeros; the promise gives the length, which lending them as a slice needs.
@@ -292,10 +295,10 @@ fn zeros() -> [u8; ROOM]
     [0; ROOM]
 }
 
-fn main() {
+fn main(rt: HostRuntime) -> io::Result<()> {
     let mut room = zeros();
-    numbers(&mut room);
-    sizes(&mut room);
+    numbers(&rt, &mut room)?;
+    sizes(&rt, &mut room)?;
     let mut img = [0u8; 6144];
-    one_block(&mut img);
+    one_block(&rt, &mut img)
 }

@@ -4,6 +4,7 @@ ghost use Rattle.std.specs.Prelude.{◌≡◌, length};
 use crate::rows;
 use crate::rows::{Names, Seen, Tally};
 use kinds::{Id, Money, Receipt, Report, Tick, User};
+use std::io;
 use tariff::Tariff;
 
 // A call and what it is given; a size is that of the data buffer that is lent.
@@ -124,7 +125,7 @@ pub(crate) fn unlike(a: &Room, b: &Room, from: usize, to: usize) -> u64 {
     let mut k: u64 = 0;
     let mut i: usize = from;
     while i < to {
-        k = std::num::wrapping_add_u64(k, unlike_at(a, b, i));
+        k = k.wrapping_add(unlike_at(a, b, i));
         i += 1;
     }
     k
@@ -263,14 +264,21 @@ fn run_cut(img: &mut [u8], size: usize, call: Call) -> Seen {
 }
 
 // Runs a call on the bytes of an image that are lent, and ends its row.
-pub(crate) fn row(t: Tally, img: &mut Room, call: Call, names: Names, expected: Seen) -> Tally {
+pub(crate) fn row(
+    rt: &impl Print,
+    t: Tally,
+    img: &mut Room,
+    call: Call,
+    names: Names,
+    expected: Seen,
+) -> io::Result<Tally> {
     let old = *img;
     let s = run_cut(img, t.lent, call);
     let changed = 0 < unlike(&old, img, 0, 6144);
     let seen = made(
         s.report, s.charge, changed, s.buffer, s.first, s.second, s.third,
     );
-    rows::say_row(t, names, expected, seen)
+    rows::say_row(rt, t, names, expected, seen)
 }
 
 // A fresh image of 8 blocks.
@@ -279,35 +287,37 @@ pub(crate) fn fresh(img: &mut Room) {
 }
 
 // A byte of the image is made v, and a line says so.
-pub(crate) fn poke(img: &mut Room, at: usize, v: u8) {
-    rows::field(b"Byte ", at as u64);
-    rows::field(b" of the image is made ", v as u64);
-    rows::write(b"\n");
+pub(crate) fn poke(rt: &impl Print, img: &mut Room, at: usize, v: u8) -> io::Result<()> {
+    rows::field(rt, "Byte ", at as u64)?;
+    rows::field(rt, " of the image is made ", v as u64)?;
+    rows::write(rt, "\n")?;
     if at < 6144 {
         img[at] = v;
     }
+    Ok(())
 }
 
 // What Check says, 1 for yes, with a row.
-pub(crate) fn row_sound(t: Tally, img: &Room, what: &[u8]) -> Tally {
+pub(crate) fn row_sound(rt: &impl Print, t: Tally, img: &Room, what: &str) -> io::Result<Tally> {
     if image::sound::check(img) {
-        return rows::say_count(t, what, 1, 1);
+        return rows::say_count(rt, t, what, 1, 1);
     }
-    rows::say_count(t, what, 1, 0)
+    rows::say_count(rt, t, what, 1, 0)
 }
 
 // How many bytes a call changed from a place up to another, with a row.
 pub(crate) fn row_bytes(
+    rt: &impl Print,
     t: Tally,
     old: &Room,
     img: &Room,
     from: usize,
     to: usize,
     want: u64,
-) -> Tally {
+) -> io::Result<Tally> {
     let found = unlike(old, img, from, to);
-    rows::write(b"Bytes changed from ");
-    rows::field(b"", from as u64);
-    rows::field(b" up to ", to as u64);
-    rows::say_count(t, b"", want, found)
+    rows::write(rt, "Bytes changed from ")?;
+    rows::field(rt, "", from as u64)?;
+    rows::field(rt, " up to ", to as u64)?;
+    rows::say_count(rt, t, "", want, found)
 }

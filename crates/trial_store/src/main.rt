@@ -4,6 +4,7 @@
 #![tactic(auto)]
 
 use crate::rows::{Tally, field, say_heading, write};
+use std::io;
 
 mod call;
 mod clients;
@@ -19,34 +20,38 @@ mod space;
 mod times;
 
 // The last line.
-fn say_total(t: Tally) {
-    field(b"\n", t.rows as u64);
-    field(b" rows, ", t.differ as u64);
-    write(b" differ\n")
+fn say_total(rt: &impl Print, t: Tally) -> io::Result<()> {
+    field(rt, "\n", t.rows as u64)?;
+    field(rt, " rows, ", t.differ as u64)?;
+    write(rt, " differ\n")
 }
 
-fn bounds(start: Tally, img: &mut call::Room) -> Tally {
-    let mut t = clients::all(start, img);
-    t = times::all(t, img);
-    say_heading(b"A full store");
-    t = space::all(t, img);
-    ids::all(t, img)
+fn bounds(rt: &impl Print, start: Tally, img: &mut call::Room) -> io::Result<Tally> {
+    let mut t = clients::all(rt, start, img)?;
+    t = times::all(rt, t, img)?;
+    say_heading(rt, "A full store")?;
+    t = space::all(rt, t, img)?;
+    ids::all(rt, t, img)
 }
 
-fn main() {
+fn main(rt: HostRuntime) -> io::Result<()> {
     let mut img = [0u8; 6144];
-    write(b"Fourteen calls; Status after the third, the sixth and the eleventh\n");
+    write(
+        &rt,
+        "Fourteen calls; Status after the third, the sixth and the eleventh\n",
+    )?;
     let mut t = fourteen::all(
+        &rt,
         Tally {
             rows: 0,
             differ: 0,
             lent: 6144,
         },
         &mut img,
-    );
-    t = bounds(t, &mut img);
-    t = damage::all(t, &mut img);
-    say_heading(b"What is stored stays");
-    t = kept::all(t, &mut img);
-    say_total(t);
+    )?;
+    t = bounds(&rt, t, &mut img)?;
+    t = damage::all(&rt, t, &mut img)?;
+    say_heading(&rt, "What is stored stays")?;
+    t = kept::all(&rt, t, &mut img)?;
+    say_total(&rt, t)
 }

@@ -2,8 +2,10 @@
 // A refusal is to change no byte; a success that changes the image or a buffer is to change it.
 use crate::call::{Call, Room, made, row};
 use crate::rows::{Names, Tally, field, say_call};
+use std::io;
 
 pub(crate) fn create(
+    rt: &impl Print,
     t: Tally,
     img: &mut Room,
     client: u32,
@@ -13,13 +15,14 @@ pub(crate) fn create(
     report: u8,
     charge: i64,
     id: u64,
-) -> Tally {
-    say_call(b"Create", client);
-    field(b", now ", now);
-    field(b", expiry ", expiry);
-    field(b", buffer ", size as u64);
+) -> io::Result<Tally> {
+    say_call(rt, "Create", client)?;
+    field(rt, ", now ", now)?;
+    field(rt, ", expiry ", expiry)?;
+    field(rt, ", buffer ", size as u64)?;
     let want = made(report, charge, report == 0, false, id, 0, 0);
     row(
+        rt,
         t,
         img,
         Call::Create(client, now, expiry, size),
@@ -30,6 +33,7 @@ pub(crate) fn create(
 
 // The result: the time whose bytes are in the buffer, or 0.
 pub(crate) fn read(
+    rt: &impl Print,
     t: Tally,
     img: &mut Room,
     client: u32,
@@ -38,12 +42,13 @@ pub(crate) fn read(
     report: u8,
     charge: i64,
     time: u64,
-) -> Tally {
-    say_call(b"Read", client);
-    field(b", id ", id);
-    field(b", buffer ", size as u64);
+) -> io::Result<Tally> {
+    say_call(rt, "Read", client)?;
+    field(rt, ", id ", id)?;
+    field(rt, ", buffer ", size as u64)?;
     let want = made(report, charge, false, report == 0, time, 0, 0);
     row(
+        rt,
         t,
         img,
         Call::Read(client, id, size, time),
@@ -53,6 +58,7 @@ pub(crate) fn read(
 }
 
 pub(crate) fn status(
+    rt: &impl Print,
     t: Tally,
     img: &mut Room,
     client: u32,
@@ -62,14 +68,15 @@ pub(crate) fn status(
     owner: u64,
     created: u64,
     expires: u64,
-) -> Tally {
-    say_call(b"Status", client);
-    field(b", id ", id);
+) -> io::Result<Tally> {
+    say_call(rt, "Status", client)?;
+    field(rt, ", id ", id)?;
     let want = made(report, charge, false, false, owner, created, expires);
-    row(t, img, Call::Status(client, id), Names::Status, want)
+    row(rt, t, img, Call::Status(client, id), Names::Status, want)
 }
 
 pub(crate) fn destroy(
+    rt: &impl Print,
     t: Tally,
     img: &mut Room,
     client: u32,
@@ -77,15 +84,23 @@ pub(crate) fn destroy(
     now: u64,
     report: u8,
     charge: i64,
-) -> Tally {
-    say_call(b"Destroy", client);
-    field(b", id ", id);
-    field(b", now ", now);
+) -> io::Result<Tally> {
+    say_call(rt, "Destroy", client)?;
+    field(rt, ", id ", id)?;
+    field(rt, ", now ", now)?;
     let want = made(report, charge, report == 0, false, 0, 0, 0);
-    row(t, img, Call::Destroy(client, id, now), Names::Nothing, want)
+    row(
+        rt,
+        t,
+        img,
+        Call::Destroy(client, id, now),
+        Names::Nothing,
+        want,
+    )
 }
 
 pub(crate) fn replace(
+    rt: &impl Print,
     t: Tally,
     img: &mut Room,
     client: u32,
@@ -95,13 +110,14 @@ pub(crate) fn replace(
     report: u8,
     charge: i64,
     new: u64,
-) -> Tally {
-    say_call(b"Replace", client);
-    field(b", id ", id);
-    field(b", now ", now);
-    field(b", buffer ", size as u64);
+) -> io::Result<Tally> {
+    say_call(rt, "Replace", client)?;
+    field(rt, ", id ", id)?;
+    field(rt, ", now ", now)?;
+    field(rt, ", buffer ", size as u64)?;
     let want = made(report, charge, report == 0, false, new, 0, 0);
     row(
+        rt,
         t,
         img,
         Call::Replace(client, id, now, size),
@@ -111,6 +127,7 @@ pub(crate) fn replace(
 }
 
 pub(crate) fn set_expiry(
+    rt: &impl Print,
     t: Tally,
     img: &mut Room,
     client: u32,
@@ -119,13 +136,14 @@ pub(crate) fn set_expiry(
     expiry: u64,
     report: u8,
     charge: i64,
-) -> Tally {
-    say_call(b"SetExpiry", client);
-    field(b", id ", id);
-    field(b", now ", now);
-    field(b", expiry ", expiry);
+) -> io::Result<Tally> {
+    say_call(rt, "SetExpiry", client)?;
+    field(rt, ", id ", id)?;
+    field(rt, ", now ", now)?;
+    field(rt, ", expiry ", expiry)?;
     let want = made(report, charge, report == 0, false, 0, 0, 0);
     row(
+        rt,
         t,
         img,
         Call::SetExpiry(client, id, now, expiry),
@@ -135,20 +153,22 @@ pub(crate) fn set_expiry(
 }
 
 pub(crate) fn get_count(
+    rt: &impl Print,
     t: Tally,
     img: &mut Room,
     client: u32,
     report: u8,
     charge: i64,
     n: u64,
-) -> Tally {
-    say_call(b"GetCount", client);
+) -> io::Result<Tally> {
+    say_call(rt, "GetCount", client)?;
     let want = made(report, charge, false, false, n, 0, 0);
-    row(t, img, Call::GetCount(client), Names::Count, want)
+    row(rt, t, img, Call::GetCount(client), Names::Count, want)
 }
 
 // One id is asked for. The results: the key, the number of entries, and the id in the buffer, or 0.
 pub(crate) fn get_ids(
+    rt: &impl Print,
     t: Tally,
     img: &mut Room,
     client: u32,
@@ -158,14 +178,15 @@ pub(crate) fn get_ids(
     next: u64,
     entries: u64,
     id: u64,
-) -> Tally {
-    say_call(b"GetIds", client);
-    field(b", count 1, key ", key as u64);
+) -> io::Result<Tally> {
+    say_call(rt, "GetIds", client)?;
+    field(rt, ", count 1, key ", key as u64)?;
     let want = made(report, charge, false, 0 < entries, next, entries, id);
-    row(t, img, Call::GetIds(client, key, 1), Names::Ids, want)
+    row(rt, t, img, Call::GetIds(client, key, 1), Names::Ids, want)
 }
 
 pub(crate) fn scavenge(
+    rt: &impl Print,
     t: Tally,
     img: &mut Room,
     client: u32,
@@ -174,11 +195,12 @@ pub(crate) fn scavenge(
     charge: i64,
     next: u64,
     n: u64,
-) -> Tally {
-    say_call(b"Scavenge", client);
-    field(b", key 0, now ", now);
+) -> io::Result<Tally> {
+    say_call(rt, "Scavenge", client)?;
+    field(rt, ", key 0, now ", now)?;
     let want = made(report, charge, report == 0, false, next, n, 0);
     row(
+        rt,
         t,
         img,
         Call::Scavenge(client, 0, now),

@@ -1,5 +1,5 @@
 // A row of the output: what ran, what document 01 expects, and what was seen.
-use libc::STDOUT_FILENO;
+use std::io;
 
 // What a call answers: report, charge, whether bytes of the image or of a lent buffer changed, and up to three results.
 #[derive(Clone, Copy)]
@@ -33,71 +33,73 @@ pub(crate) struct Tally {
     pub lent: usize,
 }
 
-pub(crate) fn write(bytes: &[u8]) {
-    io::write_all(STDOUT_FILENO, bytes);
+pub(crate) fn write(rt: &impl Print, text: &str) -> io::Result<()> {
+    rt.print(text)
 }
 
-fn print(n: u64) {
-    io::print_decimal(STDOUT_FILENO, n);
+fn print(rt: &impl Print, n: u64) -> io::Result<()> {
+    rt.print(n)
 }
 
-pub(crate) fn field(name: &[u8], n: u64) {
-    write(name);
-    print(n);
+pub(crate) fn field(rt: &impl Print, name: &str, n: u64) -> io::Result<()> {
+    write(rt, name)?;
+    print(rt, n)
 }
 
-// A charge, with its sign. `!v` is -v - 1.
-fn print_signed(v: i64) {
-    if v < 0 {
-        write(b"-");
-        print((!v) as u64 + 1);
-    } else {
-        print(v as u64);
-    }
+// A charge, with its sign.
+fn print_signed(rt: &impl Print, v: i64) -> io::Result<()> {
+    rt.print(v)
 }
 
-fn say_results(names: Names, first: u64, second: u64, third: u64) {
+fn say_results(
+    rt: &impl Print,
+    names: Names,
+    first: u64,
+    second: u64,
+    third: u64,
+) -> io::Result<()> {
     match names {
-        Names::Nothing => {}
-        Names::Id => field(b", id ", first),
-        Names::BytesOf => field(b", bytes of time ", first),
-        Names::Count => field(b", count ", first),
+        Names::Nothing => Ok(()),
+        Names::Id => field(rt, ", id ", first),
+        Names::BytesOf => field(rt, ", bytes of time ", first),
+        Names::Count => field(rt, ", count ", first),
         Names::Status => {
-            field(b", owner ", first);
-            field(b", created ", second);
-            field(b", expires ", third)
+            field(rt, ", owner ", first)?;
+            field(rt, ", created ", second)?;
+            field(rt, ", expires ", third)
         }
         Names::Ids => {
-            field(b", key ", first);
-            field(b", entries ", second);
-            field(b", id ", third)
+            field(rt, ", key ", first)?;
+            field(rt, ", entries ", second)?;
+            field(rt, ", id ", third)
         }
         Names::Scavenged => {
-            field(b", key ", first);
-            field(b", count ", second)
+            field(rt, ", key ", first)?;
+            field(rt, ", count ", second)
         }
     }
 }
 
-fn say_changed(image: bool, buffer: bool) {
+fn say_changed(rt: &impl Print, image: bool, buffer: bool) -> io::Result<()> {
     if image {
-        write(b", image changed");
+        write(rt, ", image changed")?;
     }
     if buffer {
-        write(b", buffer changed");
+        write(rt, ", buffer changed")?;
     }
     if !image && !buffer {
-        write(b", no byte changed");
+        write(rt, ", no byte changed")?;
     }
+    Ok(())
 }
 
-fn say(head: &[u8], names: Names, s: Seen) {
-    write(head);
-    print(s.report as u64);
-    write(b", charge ");
-    print_signed(s.charge);
-    say_changed(s.image, s.buffer);
-    say_results(names, s.first, s.second, s.third)
+fn say(rt: &impl Print, head: &str, names: Names, s: Seen) -> io::Result<()> {
+    write(rt, head)?;
+    print(rt, s.report as u64)?;
+    write(rt, ", charge ")?;
+    print_signed(rt, s.charge)?;
+    say_changed(rt, s.image, s.buffer)?;
+    say_results(rt, names, s.first, s.second, s.third)
 }
 
 // Whether two answers are the same.
@@ -124,44 +126,56 @@ fn same(a: Seen, b: Seen) -> bool {
 }
 
 // The end of a row, and the tally with it.
-fn count(t: Tally, right: bool) -> Tally {
+fn count(rt: &impl Print, t: Tally, right: bool) -> io::Result<Tally> {
     let mut differ = t.differ;
     if !right {
-        write(b"  DIFFERS");
-        differ = std::num::wrapping_add_u32(differ, 1);
+        write(rt, "  DIFFERS")?;
+        differ = differ.wrapping_add(1);
     }
-    write(b"\n");
-    Tally {
-        rows: std::num::wrapping_add_u32(t.rows, 1),
+    write(rt, "\n")?;
+    Ok(Tally {
+        rows: t.rows.wrapping_add(1),
         differ,
         lent: t.lent,
-    }
+    })
 }
 
 // The rest of a row, after what ran.
-pub(crate) fn say_row(t: Tally, names: Names, expected: Seen, seen: Seen) -> Tally {
-    say(b": expected ", names, expected);
-    say(b"; saw ", names, seen);
-    count(t, same(expected, seen))
+pub(crate) fn say_row(
+    rt: &impl Print,
+    t: Tally,
+    names: Names,
+    expected: Seen,
+    seen: Seen,
+) -> io::Result<Tally> {
+    say(rt, ": expected ", names, expected)?;
+    say(rt, "; saw ", names, seen)?;
+    count(rt, t, same(expected, seen))
 }
 
 // What ran: the operation and its client.
-pub(crate) fn say_call(operation: &[u8], client: u32) {
-    write(operation);
-    field(b", client ", client as u64)
+pub(crate) fn say_call(rt: &impl Print, operation: &str, client: u32) -> io::Result<()> {
+    write(rt, operation)?;
+    field(rt, ", client ", client as u64)
 }
 
 // A row of one number.
-pub(crate) fn say_count(t: Tally, what: &[u8], expected: u64, seen: u64) -> Tally {
-    write(what);
-    field(b": expected ", expected);
-    field(b"; saw ", seen);
-    count(t, expected == seen)
+pub(crate) fn say_count(
+    rt: &impl Print,
+    t: Tally,
+    what: &str,
+    expected: u64,
+    seen: u64,
+) -> io::Result<Tally> {
+    write(rt, what)?;
+    field(rt, ": expected ", expected)?;
+    field(rt, "; saw ", seen)?;
+    count(rt, t, expected == seen)
 }
 
 // A line above rows.
-pub(crate) fn say_heading(what: &[u8]) {
-    write(b"\n");
-    write(what);
-    write(b"\n");
+pub(crate) fn say_heading(rt: &impl Print, what: &str) -> io::Result<()> {
+    write(rt, "\n")?;
+    write(rt, what)?;
+    write(rt, "\n")
 }
