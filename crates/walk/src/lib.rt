@@ -45,6 +45,7 @@ fn ended_answer() -> GetIdsAnswer
 }
 
 // The record after a call with this report and this key: a refused one leaves it as it was.
+#[tactic(auto, using(crate::proofs::Steps::stays, crate::proofs::Steps::moves))]
 fn moved(w: Walk, report: Report, key: u32) -> Walk
     ensures { result ≡ when (succeeds report) (moved_to w key) w }
 {
