@@ -1129,6 +1129,10 @@ if contracts.exists():
     library.write_text(library.read_text().replace("pub mod Contracts\n", "pub mod ByContract\n"))
 for path in sorted(crates.rglob("*.antt")):
     turn(path, lambda text: moved(respelled(text, LEFT)))
+# In these two files the fields are the operations' names alone.
+for folder in ("specs", "proofs"):
+    plain = {f"{name}_lem": name for name in ("set_expiry", "get_ids", "get_count")}
+    turn(crates / "demands" / folder / "Settled.antt", lambda text: respelled(text, plain))
 for path in sorted(crates.rglob("*.rt")):
     turn(path, lambda text: outside_strings(text, LEFT))
 for path in sorted(crates.glob("*/must-fail/*.edit")):

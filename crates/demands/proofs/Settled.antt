@@ -18,11 +18,11 @@ settled =
       destroy = λ t img client id time a b x y p q. (both_are p.answer q.answer, both_are p.image q.image);
       replace = λ t img client id bytes time a b x y p q.
           (both_are p.answer q.answer, both_are p.image q.image);
-      set_expiry_lem = λ t img client id expiry time a b x y p q.
+      set_expiry = λ t img client id expiry time a b x y p q.
           (both_are p.answer q.answer, both_are p.image q.image);
-      get_ids_lem = λ t img client key count ids a b x y p q.
+      get_ids = λ t img client key count ids a b x y p q.
           (both_are p.answer q.answer, both_are p.given q.given);
-      get_count_lem = λ t img client a b p q. both_are p.answer q.answer;
+      get_count = λ t img client a b p q. both_are p.answer q.answer;
       scavenge =
           λ t img client key time a b x y p q. (both_are p.answer q.answer, both_are p.image q.image);
       profile =
