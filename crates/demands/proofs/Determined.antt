@@ -25,7 +25,7 @@ use Rattle.promise.specs.Call.{Call, Create, Read, Status, Destroy, Replace, Set
 use Rattle.promise.specs.Call.{Profile, lent, key_received, rows_of, Outcome, outcome}
 use Rattle.promise.proofs.RefusalLaws.{exactly}
 use Rattle.promise.proofs.CallLaws.{in_order_lem}
-use Rattle.manual.specs.Given as goal
+use Rattle.manual.specs.Given as G
 use Rattle.manual.specs.Sets.{only, ◌≈◌}
 use Rattle.manual.specs.State.{BlockInfo, Block, info, ◌⩤◌, SS, φBasicParams, ΞSS}
 use Rattle.manual.specs.Reports.{Failed}
@@ -142,8 +142,8 @@ same_block e f = let y : some _ ≡ some _ = sym e ∙ f in cc y
 -- ---- on success: by the operation
 
 -- what is not refused succeeds
-won : {A pre : Type 0} {p : φBasicParams} {s s' : SS} {r : goal.Report} → p.report! ≡ goal.SuccessReport
-    → (r ≡ goal.SuccessReport → ⊥)
+won : {A pre : Type 0} {p : φBasicParams} {s s' : SS} {r : G.Report} → p.report! ≡ G.SuccessReport
+    → (r ≡ G.SuccessReport → ⊥)
     → (pre × Failed p s s' r) ⊎ ((¬ pre) × A) → A
 won e d (inl a) = absurd (d (sym a.1.report! ∙ e))
 won e d (inr a) = a.1
@@ -155,12 +155,12 @@ module _ (img : List ℕ) (m : n_of img ≤ 4096) where
   abbrev fixed : Settled (constants (n_of img) m)
   fixed = settled (constants (n_of img) m)
 
-  abbrev ok : goal.Report
-  ok = goal.SuccessReport
+  abbrev ok : G.Report
+  ok = G.SuccessReport
 
   -- what Demand 2 says of an outcome that is a success
   pub record Well (c : Call) (o : Outcome) : Type 0 where
-    pub schema : Schema (n_of img) m c (params_of c img goal.SuccessReport) (state_of img) (stored (n_of img) o.image) o
+    pub schema : Schema (n_of img) m c (params_of c img G.SuccessReport) (state_of img) (stored (n_of img) o.image) o
     pub choices : Choices c img o
     pub shaped : Shaped c o
     pub bytes : Bytes o.buffer
@@ -354,10 +354,10 @@ module _ (t : Tariff) (c : Call) (img : List ℕ) (m : n_of img ≤ 4096) (o o' 
 
     same-charge : o.charge ≡ o'.charge
     same-charge =
-        charged (costs t) (params_of c img goal.SuccessReport) (op_of c) (info a.block) (info a.block') o.charge
+        charged (costs t) (params_of c img G.SuccessReport) (op_of c) (info a.block) (info a.block') o.charge
         o'.charge
-        (p.charge goal.SuccessReport (ap says q) a.block a.block' (λ z. a.concerned))
-        (p'.charge goal.SuccessReport (ap says q') a.block a.block' (λ z. a.concerned'))
+        (p.charge G.SuccessReport (ap says q) a.block a.block' (λ z. a.concerned))
+        (p'.charge G.SuccessReport (ap says q') a.block a.block' (λ z. a.concerned'))
 
     success-same : o ≡ o'
     success-same = same_outcome o o' same_report same-charge a.results a.key same-image a.buffer
@@ -369,7 +369,7 @@ module _ (t : Tariff) (c : Call) (img : List ℕ) (m : n_of img ≤ 4096) (o o' 
       well : (o : Outcome) → Obeys t c img m o → Bytes o.buffer → o.report ≡ Success → Well img m c o
       well o p b q =
           record {
-            schema = p.schema goal.SuccessReport (ap says q);
+            schema = p.schema G.SuccessReport (ap says q);
             choices = p.choices q;
             shaped = p.shaped;
             bytes = b;

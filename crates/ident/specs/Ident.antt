@@ -24,11 +24,11 @@ low x = x % 2 ^ 32
 abbrev pub joined : (l r : ℕ) → ℕ
 joined l r = l * 2 ^ 32 + r
 
--- one round sends (L, R) to (R, (L + R-as-K) mod 2^32)
+-- one round sends (L, R) to (R, (L + R·K) mod 2^32)
 unfoldable pub round_of : (k x : ℕ) → ℕ
 round_of k x = joined (low x) ((high x + low x * k) % 2 ^ 32)
 
--- its undoing sends (L, R) to ((R - L-as-K) mod 2^32, L)
+-- its undoing sends (L, R) to ((R - L·K) mod 2^32, L)
 unfoldable pub unround_of : (k y : ℕ) → ℕ
 unround_of k y = joined ((low y + (2 ^ 32 - high y * k % 2 ^ 32)) % 2 ^ 32) (high y)
 
