@@ -20,7 +20,8 @@ use Rattle.word.proofs.Laws.{zero-blank}
 use Rattle.run.proofs.Tally.{picked_same}
 use Rattle.promise.specs.Layout.{size_of}
 use Rattle.promise.specs.Trailer.{n_of, clock_of}
-use Rattle.promise.specs.Header.{header_of, owner_of, id_in, created_of, expires_of, tag_of, is_used, header_bytes, used_right}
+use Rattle.promise.specs.Header.{header_of, owner_of, id_in, created_of, expires_of, tag_of, is_used, header_bytes}
+use Rattle.promise.specs.Header.{used_right}
 use Rattle.promise.specs.Map.{free, spare_zero, good}
 use Rattle.promise.specs.Counts.{owned_by, data_of, owned}
 use Rattle.promise.specs.Sound.{Sound}
@@ -222,7 +223,8 @@ module _ (a b : List ℕ) (sa : Sound a) (sb : Sound b) (ba : Bytes a) (bb : Byt
   unfolding free
   map_same k l =
       word_part b a (64 * n + k) 1 bb ba (omega (arith, B.size)) (omega (arith, A.size))
-      (bits_settle 8 (word_at 1 b (64 * n + k)) (word_at 1 a (64 * n + k)) (omega (arith, word_bound 1 b (64 * n + k) bb))
+      (bits_settle 8 (word_at 1 b (64 * n + k)) (word_at 1 a (64 * n + k))
+      (omega (arith, word_bound 1 b (64 * n + k) bb))
       (omega (arith, word_bound 1 a (64 * n + k) ba))
       (λ j h.
       let x : (8 * k + j) / 8 ≡ k = omega arith in
@@ -245,7 +247,8 @@ module _ (a b : List ℕ) (sa : Sound a) (sb : Sound b) (ba : Bytes a) (bb : Byt
   count_same u l =
       word_part b a (64 * n + 512 + 8 * u) 8 bb ba (omega (arith, B.size, num.least))
       (omega (arith, A.size, num.least))
-      (count_at_lem n b u l ∙ (rw e at (sb.counts u l)) ∙ owned_same u ∙ sym (sa.counts u l) ∙ sym (count_at_lem n a u l))
+      (count_at_lem n b u l ∙ (rw e at (sb.counts u l)) ∙ owned_same u ∙ sym (sa.counts u l)
+      ∙ sym (count_at_lem n a u l))
 
   trailer_same : part b (576 * n + 1024) 512 ≡ part a (576 * n + 1024) 512
   trailer_same = (rw (e, c) at (rule_is_bytes b bb sb.trailer)) ∙ sym (rule_is_bytes a ba sa.trailer)
@@ -260,7 +263,8 @@ module _ (a b : List ℕ) (sa : Sound a) (sb : Sound b) (ba : Bytes a) (bb : Byt
       go (inl u) = (held_same i l u).1
 
   -- A SOUND IMAGE OF BYTES IS SETTLED by N, the clock, the stored blocks, and the data of unused numbers
-  pub image_settled : ((i : ℕ) → i < n_of a → is_used (header_of a i) ≡ false → data_of (n_of a) b i ≡ data_of (n_of a) a i)
+  pub image_settled : ((i : ℕ) → i < n_of a → is_used (header_of a i) ≡ false
+      → data_of (n_of a) b i ≡ data_of (n_of a) a i)
       → b ≡ a
   unfolding header_of data_of
   image_settled f =

@@ -52,7 +52,8 @@ module _ (serve : Service) (d2 : Demand2 serve) where
         get_ids_call (constants (n_of img) m)
         ((d2.obeys t (GetIds client key count ids) img d m).schema SuccessReport (ap says r)) refl
 
-    call : (n : ℕ) (m : n ≤ 4096) (t : Tariff) (img : List ℕ) → Sound img → n_of img ≡ n → (key count : ℕ) (ids : List ℕ)
+    call : (n : ℕ) (m : n ≤ 4096) (t : Tariff) (img : List ℕ) → Sound img → n_of img ≡ n
+        → (key count : ℕ) (ids : List ℕ)
         → (asked serve client t img key count ids).report ≡ Success
         → (key' : ℕ) → key_in n (asked serve client t img key count ids).key ≡ key'
         → M.Call (constants n m) (listed client img) key key' (key' - key) (named_by serve client t img key count ids)
@@ -89,7 +90,8 @@ module _ (serve : Service) (d2 : Demand2 serve) where
         let v = is_walk n m w x.0 (x.1 ∙ e) in
         let l : List ℕ = named_by serve client t img key count ids in
         record {
-          walk = M.more (key' - key) l key' (call n m t img d e key count ids r key' (ap (key_in n) q ∙ key_is n key' p))
+          walk = M.more (key' - key) l key' (call n m t img d e key count ids r key'
+              (ap (key_in n) q ∙ key_is n key' p))
               (seen serve cs img)
               (after serve cs img) v.walk;
           names = ap (λ k. l ++ k) v.names;
@@ -132,7 +134,8 @@ module _ (serve : Service) (d2 : Demand2 serve) where
         → (key < key') × (key' < n_of img)
     is-onward t img d key count key' ids r q p =
         let m = most img d in
-        let c = call (n_of img) m t img d refl key count ids r key' (ap (key_in (n_of img)) q ∙ key_is (n_of img) key' p) in
+        let c = call (n_of img) m t img d refl key count ids r key'
+        (ap (key_in (n_of img)) q ∙ key_is (n_of img) key' p) in
         let l = c.keys.valid in
         let s : some (key_at (n_of img) (key + ids_visited img client key count)) ≡ some key' =
         sym ((d2.obeys t (GetIds client key count ids) img d m).choices r).0 ∙ q in

@@ -41,7 +41,8 @@ old_ran = refl
 
 abbrev incident : Walk old_store 3 three start_key
 unfolding sights
-incident = more prices 1 room 1 (report_at old_ran 0) (key_at_lem old_ran 0) (λ e. omega arith) (at (Scavenge 0 0 15) ∷ [])
+incident = more prices 1 room 1 (report_at old_ran 0) (key_at_lem old_ran 0) (λ e. omega arith)
+    (at (Scavenge 0 0 15) ∷ [])
     (last prices 1 room (report_at old_ran 2) (key_at_lem old_ran 2))
 
 -- block 1 old_stood throughout, and is never named

@@ -2,8 +2,10 @@
 -- Assumes nothing.
 use Rattle.demands.specs.WrongStores.{Excluded}
 use Rattle.demands.proofs.WrongStores.{refuses_all_well, refuses_all_walks, refuses_all_lem, answers_alike_lem}
-use Rattle.demands.proofs.WrongStores.{stores_nothing_lem, made_up_count_lem, ends_at_n_lem, scribbles_on, gives_more_lem}
-use Rattle.demands.proofs.WrongStores.{ends_on_refusal_lem, owner_first_lem, half_scavenge_lem, scavenges_equal_lem, wipes_data_lem}
+use Rattle.demands.proofs.WrongStores.{stores_nothing_lem, made_up_count_lem, ends_at_n_lem, scribbles_on}
+use Rattle.demands.proofs.WrongStores.{gives_more_lem}
+use Rattle.demands.proofs.WrongStores.{ends_on_refusal_lem, owner_first_lem, half_scavenge_lem, scavenges_equal_lem}
+use Rattle.demands.proofs.WrongStores.{wipes_data_lem}
 use Rattle.demands.proofs.WrongWalks.{stops_at_nothing_lem, names_all_at_once_lem, visits-all}
 use Rattle.demands.proofs.Example.{old_store_lem}
 

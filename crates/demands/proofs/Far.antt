@@ -39,7 +39,8 @@ fresh_at1 n = clocked (n_of (fresh_image n)) 1 (fresh_image n)
 
 unfoldable pub far : (n : ℕ) → List ℕ
 far n =
-    puts (fresh_at1 n) (placing (n_of (fresh_image n)) (fresh_at1 n) 64 3 (clock_of (fresh_at1 n)) 1 (blank 16) (blank 512))
+    puts (fresh_at1 n) (placing (n_of (fresh_image n)) (fresh_at1 n) 64 3 (clock_of (fresh_at1 n)) 1 (blank 16)
+    (blank 512))
 
 module _ (n : ℕ) (r : number_right n ≡ true) (more : 64 < n) where
   abbrev fresh : List ℕ

@@ -13,7 +13,8 @@ use Rattle.word.proofs.Laws.{bytes-part, bytes_append, bytes-over, bytes-bytes_o
 use Rattle.kinds.specs.declared.Report.TheVariants.{Success}
 use Rattle.ident.specs.Ident.{id_of}
 use Rattle.tariff.specs.declared.Tariff.{Tariff}
-use Rattle.tariff.specs.Charges.{create_charge, destroy_charge, replace_charge, set_expiry_charge, read_charge, status_charge}
+use Rattle.tariff.specs.Charges.{create_charge, destroy_charge, replace_charge, set_expiry_charge, read_charge}
+use Rattle.tariff.specs.Charges.{status_charge}
 use Rattle.tariff.specs.Charges.{get_ids_charge, get_count_charge, scavenge_charge, profile_charge}
 use Rattle.run.specs.Run.{rows, each}
 use Rattle.promise.specs.Keys.{key_at, reach}
@@ -21,7 +22,8 @@ use Rattle.promise.specs.Call.{Call, Create, Read, Status, Destroy, Replace, Set
 use Rattle.promise.specs.Call.{Profile, lent, key_received, rows_of, Outcome, outcome}
 use Rattle.promise.specs.Counts.{count_of, count_set, data_of, service_block}
 use Rattle.promise.specs.Create.{lowest_free, create_report, create_writes, create_image, create_answer}
-use Rattle.promise.specs.Header.{header_of, owner_of, created_of, expires_of, tag_of, later_of, header_bytes, header_zeroed}
+use Rattle.promise.specs.Header.{header_of, owner_of, created_of, expires_of, tag_of, later_of, header_bytes}
+use Rattle.promise.specs.Header.{header_zeroed}
 use Rattle.promise.specs.Destroy.{destroy_report, destroy_writes, destroy_image, destroy_answer}
 use Rattle.promise.specs.GetCount.{get_count_report, get_count_answer}
 use Rattle.promise.specs.GetIds.{ids_visited, ids_named, id_row, get_ids_report, get_ids_answer, get_ids_buffer}
@@ -52,7 +54,8 @@ granted t (Status client id) img =
     gives Success (status_charge t) (owner_of h ∷ created_of h ∷ expires_of h ∷ []) none img []
 granted t (Destroy client id time) img =
     let h : List ℕ = header_for img id in
-    gives Success (destroy_charge t (created_of h) (expires_of h) time) [] none (puts img (destroy_writes img id time)) []
+    gives Success (destroy_charge t (created_of h) (expires_of h) time) [] none
+    (puts img (destroy_writes img id time)) []
 granted t (Replace client id bytes time) img =
     let h : List ℕ = header_for img id in
     gives Success (replace_charge t (created_of h) (expires_of h) time time (replace_expires img id))
@@ -79,9 +82,9 @@ granted t (Profile client key buffer) img =
 -- all definitions of answers, opened by one name
 unfoldable pub answers : Unit {0}
 unfolding outcome rows_of create_report create_answer create_image read_report read_answer read_buffer status_report
-    status_answer destroy_report destroy_answer destroy_image replace_report replace_answer replace_image set_expiry_report
-    set_expiry_answer set_expiry_image get_ids_report get_ids_answer get_ids_buffer get_count_report get_count_answer scavenge_report
-    scavenge_answer scavenge_image profile_report profile_answer profile_buffer
+    status_answer destroy_report destroy_answer destroy_image replace_report replace_answer replace_image
+    set_expiry_report set_expiry_answer set_expiry_image get_ids_report get_ids_answer get_ids_buffer get_count_report
+    get_count_answer scavenge_report scavenge_answer scavenge_image profile_report profile_answer profile_buffer
 answers = tt
 
 pub grants : (t : Tariff) (c : Call) (img : List ℕ) → lowest (rows_of c img) ≡ Success

@@ -86,7 +86,8 @@ module _ (t : Tariff) (img : List ℕ) (d : Sound img) (m : n_of img ≤ 4096) (
   abbrev named : List ℕ
   named = ids_named img client key count
 
-  g-rows : key + visited ≤ n_of img → Every (λ b. (id_row img b ≡ bytes_of 8 (id_at img b)) × (id_at img b < 2 ^ 64)) named
+  g-rows : key + visited ≤ n_of img → Every (λ b. (id_row img b ≡ bytes_of 8 (id_at img b)) × (id_at img b < 2 ^ 64))
+      named
   unfolding ids_named id_row owned_by
   g-rows h =
       every_picked test' _ key visited

@@ -75,7 +75,8 @@ two_parts bytes e = sym (part_split bytes 0 16 512 (omega arith)) ∙ part_whole
 
 -- ---- one block removed, in a sound image: the owner is the one that it had in img
 
-module _ (n : ℕ) (img s : List ℕ) (d : Sound s) (k : n_of s ≡ n) (b : ℕ) (l : b < n) (u : is_used (header_of s b) ≡ true)
+module _ (n : ℕ) (img s : List ℕ) (d : Sound s) (k : n_of s ≡ n) (b : ℕ) (l : b < n)
+    (u : is_used (header_of s b) ≡ true)
     (w : owner_of (header_of s b) ≡ owner_of (header_of img b)) where
   abbrev o : ℕ
   o = owner_of (header_of img b)
@@ -129,7 +130,8 @@ pub record Done (img : List ℕ) (time : ℕ) (img' : List ℕ) : Type 0 where
   pub sound : Sound img'
   pub number : n_of img' ≡ n_of img
   pub clock : clock_of img' ≡ time
-  pub left : (c : ℕ) → c < n_of img → is_used (header_of img' c) ≡ false → data_of (n_of img) img' c ≡ data_of (n_of img) img c
+  pub left : (c : ℕ) → c < n_of img → is_used (header_of img' c) ≡ false
+      → data_of (n_of img) img' c ≡ data_of (n_of img) img c
 
 -- with these stored blocks after
 pub record Does (img : List ℕ) (time : ℕ) (img' : List ℕ) (m : Blocks) : Type 0 where
@@ -346,7 +348,8 @@ module _ (img : List ℕ) (d : Sound img) (time : ℕ) (later : clock_of img < t
     c-writes = rw (t.counts client, t.map a space, t.clock) clocked-first
 
     pub create-does : Does img time (puts img (create_writes img client expiry bytes time))
-        (put (blocks (n_of img) img) (id_of time (lowest_free img)) (new_block client time (later_of time expiry) bytes))
+        (put (blocks (n_of img) img) (id_of time (lowest_free img))
+        (new_block client time (later_of time expiry) bytes))
     create-does =
         rw (c-writes, t.clock)
         (rw (t.clock, two_parts bytes whole) at

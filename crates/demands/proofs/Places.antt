@@ -53,7 +53,10 @@ pub same_there : (n : ℕ) (s s' : List ℕ) (x : ℕ)
 unfolding blocks
 same_there n s s' x f =
     ⊎_elim (λ (l : leads_to x < n). rw ((f l).0, (f l).1))
-    (λ (l : n ≤ leads_to x). rw (holds-far n x (header_of s' (leads_to x)) l, holds-far n x (header_of s (leads_to x)) l))
+    (λ (l : n ≤ leads_to x). rw (
+      holds-far n x (header_of s' (leads_to x)) l,
+      holds-far n x (header_of s (leads_to x)) l,
+    ))
     (lt_or_le (leads_to x) n)
 
 -- ---- a later clock

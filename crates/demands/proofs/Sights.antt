@@ -83,12 +83,13 @@ module _ {l m : List Sight} (e : l ≡ m) (i : ℕ) where
 -- all definitions that a concrete run needs
 unfoldable pub opened : Unit {0}
 unfolding answers sights all part le bytes_of blank all_zero over puts round_of unround_of rounds unrounds disguised
-    undone id_of shaped_in T create_charge destroy_charge replace_charge set_expiry_charge one just picked all_of first visits
-    rows each times number_right n_of clock_of right_trailer trailer_right trailer_bytes header_of later_of header_bytes
-    used_right good_header free spare_zero good count_of owned_by owners owned data_of sound_image fresh_image lowest bad_now
-    bad_count applies lookup_damaged no_such_block not_owner lowest_free create_damaged create_rows create_writes read_rows
-    destroy_damaged destroy_rows destroy_writes replace_rows replace_writes set_expiry_rows set_expiry_writes key_at ids_visited
-    ids_named id_row get_ids_rows get_count_rows expired gone gone_of scavenge_damaged scavenge_rows scavenged is_id holds blocks
-    ids_in three refuses_all answers_alike stores_nothing made_up_count old_store stops_at_nothing names_all_at_once ends_at_n
-    scribbles gives_more ends_on_refusal owner_first scavenges_equal half_scavenge wipes_data clocked
+    undone id_of shaped_in T create_charge destroy_charge replace_charge set_expiry_charge one just picked all_of first
+    visits rows each times number_right n_of clock_of right_trailer trailer_right trailer_bytes header_of later_of
+    header_bytes used_right good_header free spare_zero good count_of owned_by owners owned data_of sound_image
+    fresh_image lowest bad_now bad_count applies lookup_damaged no_such_block not_owner lowest_free create_damaged
+    create_rows create_writes read_rows destroy_damaged destroy_rows destroy_writes replace_rows replace_writes
+    set_expiry_rows set_expiry_writes key_at ids_visited ids_named id_row get_ids_rows get_count_rows expired gone
+    gone_of scavenge_damaged scavenge_rows scavenged is_id holds blocks ids_in three refuses_all answers_alike
+    stores_nothing made_up_count old_store stops_at_nothing names_all_at_once ends_at_n scribbles gives_more
+    ends_on_refusal owner_first scavenges_equal half_scavenge wipes_data clocked
 opened = tt

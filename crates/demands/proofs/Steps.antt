@@ -20,7 +20,8 @@ use Rattle.ident.proofs.Laws.{id_below}
 use Rattle.run.specs.Run.{one}
 use Rattle.promise.specs.Layout.{header_at, map_at, count_at, data_at, trailer_at, size_of}
 use Rattle.promise.specs.Trailer.{clock_of}
-use Rattle.promise.specs.Header.{header_of, owner_of, id_in, created_of, expires_of, tag_of, is_used, header_bytes, used_right}
+use Rattle.promise.specs.Header.{header_of, owner_of, id_in, created_of, expires_of, tag_of, is_used, header_bytes}
+use Rattle.promise.specs.Header.{used_right}
 use Rattle.promise.specs.Header.{good_header, header_zeroed}
 use Rattle.promise.specs.Map.{map_byte, weight, free, spare_zero, bit_taken, bit_freed}
 use Rattle.promise.specs.Counts.{count_of, count_set, owned_by, data_of}
@@ -199,7 +200,8 @@ module _ (s : List ℕ) (n b : ℕ) (size : length s ≡ size_of n) (eights : n 
     m-bytes = frames (moving b expires) s (data_at n b) 512 m-local.0 (simp sizes (omega arith))
 
     pub moved : let h : List ℕ = header_of s b in
-        Becomes n b s (puts s (moving b expires)) (owner_of h) (id_in h) (created_of h) expires (tag_of h) (data_of n s b)
+        Becomes n b s (puts s (moving b expires)) (owner_of h) (id_in h) (created_of h) expires (tag_of h)
+        (data_of n s b)
     moved =
         let r = moved_reads (header_of s b) (header_of m-after b) expires m-rest m-expires u in
         record {
@@ -325,7 +327,8 @@ module _ (s : List ℕ) (n b : ℕ) (size : length s ≡ size_of n) (eights : n 
       unfolding one owned_by
       p-owner v = rw (p-header, new-reads.used, new-reads.owner_is)
 
-      pub placed : Becomes n b s (puts s (placing n s b owner (clock_of s) expires tag bytes)) owner (id_of (clock_of s) b)
+      pub placed : Becomes n b s (puts s (placing n s b owner (clock_of s) expires tag bytes)) owner
+          (id_of (clock_of s) b)
           (clock_of s) expires tag bytes
       placed =
           let r : Reads (header_of p-after b) owner (id_of now b) now expires tag = rw p-header new-reads in

@@ -168,7 +168,11 @@ module _ (t : Tariff) (img : List ℕ) (d : Sound img) (m : n_of img ≤ 4096) (
 new_id : (img : List ℕ) (n time b : ℕ) → n ≤ 4096 → clock_of img < time → time < 2 ^ 40 → b < n
     → id_of time b ∈ (stored n img).newids
 new_id img n time b k l u h =
-    rw (made_id n time b (omega arith) u (omega arith) h, time_back time b u (omega arith), lt-ltb (clock_of img) time l)
+    rw (
+      made_id n time b (omega arith) u (omega arith) h,
+      time_back time b u (omega arith),
+      lt-ltb (clock_of img) time l,
+    )
 
 module _ (t : Tariff) (img : List ℕ) (d : Sound img) (m : n_of img ≤ 4096) (client id : ℕ) (bytes : List ℕ)
     (time : ℕ) where
@@ -349,7 +353,12 @@ module _ (t : Tariff) (img : List ℕ) (d : Sound img) (m : n_of img ≤ 4096) (
       succeed t g_call img d m q (stays img d)
       (block-length img d (leads_to id) (found img id f).number ∙ sym (is_block buffer b))
       (has_such img d id (params_of g_call img SuccessReport) (state_of img) f (
-        record { block = its_block img d id; old = its_there img d id f; bytes = refl; same = unchanged (state_of img) },
+        record {
+          block = its_block img d id;
+          old = its_there img d id f;
+          bytes = refl;
+          same = unchanged (state_of img);
+        },
         refl,
       ))
       (λ b b' z. refl) tt)))))))

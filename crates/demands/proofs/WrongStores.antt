@@ -71,8 +71,8 @@ on_fresh h c = h.obeys prices c fresh fresh_sound (most fresh fresh_sound)
 -- ---- a store that refuses everything: its refusals are well-formed
 
 bad_image_lem : (c : Call) (img : List ℕ) → Among (rows_of c img) BadImage
-unfolding rows_of create_rows read_rows status_rows destroy_rows replace_rows set_expiry_rows get_ids_rows get_count_rows
-    scavenge_rows profile_rows
+unfolding rows_of create_rows read_rows status_rows destroy_rows replace_rows set_expiry_rows get_ids_rows
+    get_count_rows scavenge_rows profile_rows
 bad_image_lem (Create client expiry bytes time) img = inl refl
 bad_image_lem (Read client id buffer) img = inl refl
 bad_image_lem (Status client id) img = inl refl

@@ -33,7 +33,8 @@ use Rattle.demands.proofs.Far.{far, far_sound, far_number, far_names, far-all, f
 use Rattle.demands.proofs.Buffers.{length_ids}
 
 -- a GetIds call on a sound image succeeds where its inputs are in range
-is_listed : (img : List ℕ) → Sound img → (client key count : ℕ) (ids : List ℕ) → client < 64 → key < n_of img → 0 < count
+is_listed : (img : List ℕ) → Sound img → (client key count : ℕ) (ids : List ℕ) → client < 64 → key < n_of img
+    → 0 < count
     → count ≤ 64
     → 8 * count ≤ length ids → get_ids_report img client key count ids ≡ Success
 unfolding get_ids_report get_ids_rows lowest bad_count

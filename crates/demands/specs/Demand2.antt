@@ -1,7 +1,8 @@
 -- DEMAND 2. From an image that passes the check, every operation gives the answer, the new store and the charge that
 -- PRG-62's User Manual defines, with its open choices fixed as in document 01, and refuses exactly when that document
 -- says so. The statement; its proof is in proofs/Demand2.antt.
-use Rattle.std.specs.Prelude.{ℕ, zero, suc, ◌+◌, ◌*◌, ◌≤◌, ◌<◌, ◌≡◌, true, false, List, [], ◌∷◌, map, eqb, pos, length, get_or, drop}
+use Rattle.std.specs.Prelude.{ℕ, zero, suc, ◌+◌, ◌*◌, ◌≤◌, ◌<◌, ◌≡◌, true, false, List, [], ◌∷◌, map, eqb, pos, length}
+use Rattle.std.specs.Prelude.{get_or, drop}
 use Rattle.std.proofs.Math.Option.{Option, none, some}
 use Rattle.plain.specs.Tests.{when}
 use Rattle.word.specs.Word.{word_at, Bytes}

@@ -62,7 +62,12 @@ holds n x h = shaped_in n (undone x) && is_used h && eqb (id_in h) x
 -- the block of a header and its data: the first 16 of its 528 bytes are the tag. PRG-62's created ≤ expires is no part
 -- of it: a block that Replace stores keeps the old one's expires, which may be before now.
 abbrev pub block_in : (h bytes : List ℕ) → Block
-block_in h bytes = record { owner = owner_of h; created = created_of h; expires = expires_of h; bytes = tag_of h ++ bytes }
+block_in h bytes = record {
+  owner = owner_of h;
+  created = created_of h;
+  expires = expires_of h;
+  bytes = tag_of h ++ bytes;
+}
 
 abbrev pub entry : (n x : ℕ) (h bytes : List ℕ) → Option Block
 entry n x h bytes = when (holds n x h) (some (block_in h bytes)) none

@@ -1,7 +1,8 @@
 -- Laws of the identifiers: each round is undone by its undoing, and so are the rounds of any list of constants; no two
 -- ids are alike, none is NullId, and the time and the block number come back out.
 -- Assumes nothing.
-use Rattle.std.specs.Prelude.{◌≡◌, refl, true, false, ◌&&◌, List, [], ◌∷◌, ℕ, ◌+◌, ◌-◌, ◌*◌, ◌%◌, ◌^◌, ◌≤◌, ◌<◌, ltb, leb}
+use Rattle.std.specs.Prelude.{◌≡◌, refl, true, false, ◌&&◌, List, [], ◌∷◌, ℕ, ◌+◌, ◌-◌, ◌*◌, ◌%◌, ◌^◌, ◌≤◌, ◌<◌, ltb}
+use Rattle.std.specs.Prelude.{leb}
 use Rattle.std.proofs.Common.{sym, ◌∙◌, ap}
 use native.Mathlib.Omega.{arith}
 use borrow.Author.Tests.{lt-ltb, le-leb, ltb-true, leb-true}

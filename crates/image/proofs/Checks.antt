@@ -1,6 +1,7 @@
 -- Check's test in the parts that the code tests one after the other.
 -- Assumes nothing.
-use Rattle.std.proofs.Common.{◌≡◌, ℕ, zero, suc, ◌<◌, true, false, ◌&&◌, eqb, List, get_or, replicate, sym, refl, ap, ◌∙◌, arith}
+use Rattle.std.proofs.Common.{◌≡◌, ℕ, zero, suc, ◌<◌, true, false, ◌&&◌, eqb, List, get_or, replicate, sym, refl, ap}
+use Rattle.std.proofs.Common.{◌∙◌, arith}
 use mathlib.Core.Bool.{and_assoc}
 use Rattle.plain.specs.Tests.{was_first, was_second, apart}
 use Rattle.run.specs.Run.{all_of, times}

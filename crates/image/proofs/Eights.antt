@@ -1,7 +1,8 @@
 -- The eight headers of one byte of the map: where all are free they are good where their 512 bytes are zero, and add
 -- nothing to the tally; and the headers from one byte of the map on, in eights.
 -- Assumes nothing.
-use Rattle.std.proofs.Common.{◌≡◌, ℕ, zero, suc, ◌+◌, ◌-◌, ◌*◌, ◌/◌, ◌%◌, ◌<◌, ◌≤◌, Bool, true, false, List, length, sym, refl, ap, ◌∙◌, arith}
+use Rattle.std.proofs.Common.{◌≡◌, ℕ, zero, suc, ◌+◌, ◌-◌, ◌*◌, ◌/◌, ◌%◌, ◌<◌, ◌≤◌, Bool, true, false, List, length}
+use Rattle.std.proofs.Common.{sym, refl, ap, ◌∙◌, arith}
 use Rattle.word.specs.Word.{part, word_at, all_zero}
 use Rattle.word.proofs.Laws.{part_split}
 use Rattle.word.proofs.Turns.{all_zero_append}
@@ -59,7 +60,8 @@ module _ (img : List ℕ) (n clock i m : ℕ) (known : Known img n clock) (h : i
       ∙ all_same (λ b. all_zero (header_of img b)) (good img) (8 * i) 8
       (λ b l u. good_is_zero img n clock b known (all-free b l u))
 
-  pub eight_none : all_zero (part img (64 * (8 * i)) (8 * 64)) ≡ true → (u : ℕ) → times u (owners_from img (8 * i) 8) ≡ 0
+  pub eight_none : all_zero (part img (64 * (8 * i)) (8 * 64)) ≡ true → (u : ℕ)
+      → times u (owners_from img (8 * i) 8) ≡ 0
   unfolding times
   eight_none z u =
       let w = zeros_run img (8 * i) 8 (omega (arith, known.laid.size)) ∙ z in

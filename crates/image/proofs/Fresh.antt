@@ -1,7 +1,8 @@
 -- How Format's writes make a fresh image: its trailer, from numbers that follow one another and a mark after zeros, and
 -- the whole.
 -- Assumes nothing.
-use Rattle.std.proofs.Common.{◌≡◌, ℕ, ◌+◌, ◌/◌, ◌≤◌, true, false, List, ◌++◌, length, replicate, sym, refl, ap, ◌∙◌, arith, eq-eqb}
+use Rattle.std.proofs.Common.{◌≡◌, ℕ, ◌+◌, ◌/◌, ◌≤◌, true, false, List, ◌++◌, length, replicate, sym, refl, ap, ◌∙◌}
+use Rattle.std.proofs.Common.{arith, eq-eqb}
 use Rattle.word.specs.Word.{part, bytes_of, blank}
 use Rattle.word.specs.Write.{over, puts}
 use Rattle.word.proofs.Laws.{sizes, length-bytes_of, length_over, length-blank, frame, part-part, part-blank, over_same}

@@ -1,7 +1,10 @@
 -- A header's rule in the parts that the code tests, and a header and a service block as the code writes them, piece by
 -- piece.
 -- Assumes nothing.
-use Rattle.std.proofs.Common.{◌≡◌, ℕ, zero, suc, ◌+◌, ◌-◌, ◌*◌, ◌/◌, ◌%◌, ◌^◌, ◌<◌, ◌≤◌, Bool, true, false, ◌&&◌, eqb, leb, ◌⊎◌, List, [], ◌∷◌, ◌++◌, length, take, drop, sym, refl, ap, ◌∙◌, inl, inr, append-nil, arith, length-append, drop_of_length-le, eq-eqb, ne_eqb, eqb-true, le-leb, leb-true}
+use Rattle.std.proofs.Common.{◌≡◌, ℕ, zero, suc, ◌+◌, ◌-◌, ◌*◌, ◌/◌, ◌%◌, ◌^◌, ◌<◌, ◌≤◌, Bool, true, false, ◌&&◌, eqb}
+use Rattle.std.proofs.Common.{leb, ◌⊎◌, List, [], ◌∷◌, ◌++◌, length, take, drop, sym, refl, ap, ◌∙◌, inl, inr}
+use Rattle.std.proofs.Common.{append-nil, arith, length-append, drop_of_length-le, eq-eqb, ne_eqb, eqb-true, le-leb}
+use Rattle.std.proofs.Common.{leb-true}
 use mathlib.Core.Bool.{and-true, and-false, or-false}
 use native.Mathlib.Decide.{ℕ_discrete}
 use borrow.Author.Tests.{lt-leb}
@@ -24,7 +27,8 @@ use Rattle.image.specs.Image.{Known, shape_tests, time_tests}
 -- ---- the rule of a used header in parts
 
 parts : (clock b : ℕ) (h : List ℕ)
-    → used_right clock b h ≡ (all (shape_tests h) && (all (time_tests clock h) && eqb (id_in h) (id_of (created_of h) b)))
+    → used_right clock b h ≡ (all (shape_tests h) && (all (time_tests clock h)
+    && eqb (id_in h) (id_of (created_of h) b)))
 unfolding all used_right
 parts clock b h =
     all_append (shape_tests h) (time_tests clock h ++ (eqb (id_in h) (id_of (created_of h) b) ∷ []))
@@ -59,7 +63,8 @@ turned true true true false = refl
 turned true true false true = refl
 turned true true false false = refl
 
-pub shape_word : (h : List ℕ) (x y : ℕ) → Bytes h → length h ≡ 64 → x ≡ word_at 8 h 0 → y < 2 ^ 64 → (y + 1) % 2 ^ 64 ≡ x
+pub shape_word : (h : List ℕ) (x y : ℕ) → Bytes h → length h ≡ 64 → x ≡ word_at 8 h 0 → y < 2 ^ 64
+    → (y + 1) % 2 ^ 64 ≡ x
     → (eqb (y - 256 * (y / 256 % 64)) 0 && all_zero (part h 48 16)) ≡ all (shape_tests h)
 unfolding all
 shape_word h x y b e q k p =
@@ -172,6 +177,9 @@ unfolding header_of data_of
 block_given buffer img n b e h l =
     let k = length_part img (64 * b + 32) 16 (omega arith) in
     let m = length_part img (data_at n b) 512 h in
-    rw (lent-part img (64 * b + 32) (64 * b + 32 + 16) 16 refl, lent-part img (data_at n b) (data_at n b + 512) 512 refl)
+    rw (
+      lent-part img (64 * b + 32) (64 * b + 32 + 16) 16 refl,
+      lent-part img (data_at n b) (data_at n b + 512) 512 refl,
+    )
     (filled buffer (part img (64 * b + 32) 16) (part img (data_at n b) 512) 16 k (omega arith)
     ∙ ap (λ r. r ++ part img (data_at n b) 512) (sym (part-part img (64 * b) 64 32 16 (omega arith))))

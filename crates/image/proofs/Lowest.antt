@@ -1,7 +1,8 @@
 -- The lowest free block, k bytes of the map at a time: where all are 0 they are passed, and the first that are not have
 -- it at their lowest bit.
 -- Assumes nothing.
-use Rattle.std.proofs.Common.{◌≡◌, ℕ, zero, suc, ◌+◌, ◌-◌, ◌*◌, ◌/◌, ◌%◌, ◌^◌, ◌<◌, ◌≤◌, cond, eqb, List, length, sym, refl, ap, ◌∙◌, add-zero, arith, shr-shr}
+use Rattle.std.proofs.Common.{◌≡◌, ℕ, zero, suc, ◌+◌, ◌-◌, ◌*◌, ◌/◌, ◌%◌, ◌^◌, ◌<◌, ◌≤◌, cond, eqb, List, length, sym}
+use Rattle.std.proofs.Common.{refl, ap, ◌∙◌, add-zero, arith, shr-shr}
 use lib.Count.{under, count_trailing_zeros}
 use Rattle.word.specs.Word.{word_at, Bytes}
 use Rattle.word.proofs.WordBits.{word_bit}
@@ -85,7 +86,8 @@ module _ (n : ℕ) (img : List ℕ) (i k m : ℕ) (bits : (j : ℕ) → j < 8 * 
         z,
       )
 
-  pub lowest-here : 0 < m → m < 2 ^ (8 * k) → 8 * i + first (bit_of m) 0 (8 * k) ≡ first (free n img) (8 * i) (n - 8 * i)
+  pub lowest-here : 0 < m → m < 2 ^ (8 * k) → 8 * i + first (bit_of m) 0 (8 * k)
+      ≡ first (free n img) (8 * i) (n - 8 * i)
   lowest-here l u =
       rw (
         rest,

@@ -1,6 +1,8 @@
 -- The tally of owners that Check keeps: what one header adds to it, and what it is after all headers.
 -- Assumes nothing.
-use Rattle.std.proofs.Common.{◌≡◌, ℕ, ◌+◌, ◌-◌, ◌*◌, ◌/◌, ◌%◌, ◌<◌, ◌≤◌, Bool, true, false, cond, eqb, List, map, length, get_or, take, drop, set, sym, refl, ap, ◌∙◌, arith, length-set, get_or-set_other, get_or-set_same, eq-eqb, ne_eqb}
+use Rattle.std.proofs.Common.{◌≡◌, ℕ, ◌+◌, ◌-◌, ◌*◌, ◌/◌, ◌%◌, ◌<◌, ◌≤◌, Bool, true, false, cond, eqb, List, map}
+use Rattle.std.proofs.Common.{length, get_or, take, drop, set, sym, refl, ap, ◌∙◌, arith, length-set, get_or-set_other}
+use Rattle.std.proofs.Common.{get_or-set_same, eq-eqb, ne_eqb}
 use mathlib.Core.List.{map-append}
 use native.Mathlib.Decide.{ℕ_discrete}
 use Rattle.plain.specs.Tests.{when}
@@ -46,7 +48,8 @@ unfolding tallied
 tallied-not h t e = rw e
 
 -- a place of a list after one was added at x
-raised : (t : List ℕ) (x u : ℕ) → x < length t → get_or (set t x (get_or t x 0 + 1)) u 0 ≡ get_or t u 0 + cond (eqb u x) 1 0
+raised : (t : List ℕ) (x u : ℕ) → x < length t → get_or (set t x (get_or t x 0 + 1)) u 0 ≡ get_or t u 0
+    + cond (eqb u x) 1 0
 raised t x u h = go (ℕ_discrete u x)
   where
     go : Dec (u ≡ x) → get_or (set t x (get_or t x 0 + 1)) u 0 ≡ get_or t u 0 + cond (eqb u x) 1 0
@@ -83,7 +86,8 @@ module _ (img : List ℕ) where
 
   -- no more than there are headers
   pub few : (b k u : ℕ) → times u (owners_from img b k) ≤ k
-  few b k u = rw (times-picked (λ b. is_used (header_of img b)) (λ b. owner_of (header_of img b)) u b k) (picked_few _ b k)
+  few b k u = rw (times-picked (λ b. is_used (header_of img b)) (λ b. owner_of (header_of img b)) u b k)
+      (picked_few _ b k)
 
   -- ---- the tally with what is left: a header on
 

@@ -1,6 +1,7 @@
 -- The trailer's rule in the parts that the code tests, and what a reading answers in each case.
 -- Assumes nothing.
-use Rattle.std.proofs.Common.{◌≡◌, ℕ, ◌-◌, ◌<◌, ◌≤◌, true, false, ◌&&◌, eqb, List, length, take, drop, sym, refl, ap, ◌∙◌, ⊎_elim, arith, eq-eqb, ne_eqb}
+use Rattle.std.proofs.Common.{◌≡◌, ℕ, ◌-◌, ◌<◌, ◌≤◌, true, false, ◌&&◌, eqb, List, length, take, drop, sym, refl, ap}
+use Rattle.std.proofs.Common.{◌∙◌, ⊎_elim, arith, eq-eqb, ne_eqb}
 use Rattle.plain.specs.Tests.{all, all_append, decide}
 use Rattle.word.specs.Word.{word_at}
 use Rattle.word.proofs.Lent.{lent-part}

@@ -1,12 +1,14 @@
 -- What a caller knows of an image whose trailer it has read; what that reading answers; and the parts of document 01's
 -- rules that the code tests one after the other.
-use Rattle.std.specs.Prelude.{◌≡◌, ℕ, ◌+◌, ◌/◌, ◌%◌, ◌^◌, ◌<◌, Bool, ◌&&◌, ltb, List, [], ◌∷◌, map, length, ◌==◌, nat_eq, nat_le, nat_lt, slice_index, slice_set}
+use Rattle.std.specs.Prelude.{◌≡◌, ℕ, ◌+◌, ◌/◌, ◌%◌, ◌^◌, ◌<◌, Bool, ◌&&◌, ltb, List, [], ◌∷◌, map, length, ◌==◌}
+use Rattle.std.specs.Prelude.{nat_eq, nat_le, nat_lt, slice_index, slice_set}
 use Rattle.plain.specs.Tests.{when}
 use Rattle.word.specs.Word.{part, le, word_at, all_zero}
 use Rattle.kinds.specs.Kinds.{tick}
 use Rattle.run.specs.Run.{picked, all_of, times}
 use Rattle.promise.specs.Layout.{size_of, end_of_time}
-use Rattle.promise.specs.Trailer.{n_of, clock_of, back_to_headers, back_to_map, back_to_counts, back_to_data, mark, trailer_right}
+use Rattle.promise.specs.Trailer.{n_of, clock_of, back_to_headers, back_to_map, back_to_counts, back_to_data, mark}
+use Rattle.promise.specs.Trailer.{trailer_right}
 use Rattle.promise.specs.Header.{header_of, is_used, owner_of, created_of, expires_of}
 use Rattle.promise.specs.Map.{spare_zero, good}
 use Rattle.promise.specs.Counts.{count_of, owners}

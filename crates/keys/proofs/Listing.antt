@@ -27,7 +27,8 @@ use Rattle.promise.specs.Refusals.{Row, row, lowest, receipt, refusal}
 use Rattle.promise.proofs.RefusalLaws.{rising}
 use Rattle.promise.proofs.RowLaws.{clear, count_fits}
 use Rattle.promise.specs.Keys.{key_at, visited_good}
-use Rattle.promise.specs.GetIds.{ids_visited, ids_named, id_row, get_ids_rows, get_ids_report, get_ids_answer, get_ids_buffer}
+use Rattle.promise.specs.GetIds.{ids_visited, ids_named, id_row, get_ids_rows, get_ids_report, get_ids_answer}
+use Rattle.promise.specs.GetIds.{get_ids_buffer}
 use Rattle.promise.specs.GetIds.{GetIdsPromise}
 use Rattle.image.proofs.Tallies.{lent_header}
 use Rattle.front.specs.Rows.{reading_rows, front_of}
@@ -70,7 +71,8 @@ fit n key count room z =
 
 module _ (img : List ℕ) (client b : ℕ) (ids : List ℕ) (k : ℕ) where
   pub not_named : owned_by img client b ≡ false
-      → (k ≡ k + one (owned_by img client) b) × (ids ≡ over ids (8 * k) (rows (id_row img) (just (owned_by img client) b)))
+      → (k ≡ k + one (owned_by img client) b) × (ids ≡ over ids (8 * k)
+      (rows (id_row img) (just (owned_by img client) b)))
   not_named e = (
     omega (arith, one_no (owned_by img client) b e),
     sym

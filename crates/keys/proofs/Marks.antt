@@ -62,7 +62,8 @@ marked_on img time from i marks m l e h j k = go (ℕ_discrete j i)
 
 -- ---- a tally with one more at x
 
-raised : (t : List ℕ) (x u : ℕ) → x < length t → get_or (set t x (get_or t x 0 + 1)) u 0 ≡ get_or t u 0 + cond (eqb x u) 1 0
+raised : (t : List ℕ) (x u : ℕ) → x < length t → get_or (set t x (get_or t x 0 + 1)) u 0 ≡ get_or t u 0
+    + cond (eqb x u) 1 0
 raised t x u h = go (ℕ_discrete u x)
   where
     go : Dec (u ≡ x) → get_or (set t x (get_or t x 0 + 1)) u 0 ≡ get_or t u 0 + cond (eqb x u) 1 0

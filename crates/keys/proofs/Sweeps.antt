@@ -66,7 +66,8 @@ twice false = refl
 
 -- ---- what the marks say, where all visited headers are good
 
-module _ (img : List ℕ) (time from k : ℕ) (marks : List ℕ) (f : Marks img time from k marks) (g : visited_good img from k
+module _ (img : List ℕ) (time from k : ℕ) (marks : List ℕ) (f : Marks img time from k marks)
+    (g : visited_good img from k
     ≡ true) where
   mark-at : (b : ℕ) → from ≤ b → b < from + k → get_or marks (b - from) 0 ≡ mark_of img time b
   mark-at b l u = f (b - from) (omega arith) ∙ ap (λ (x : ℕ). mark_of img time x) (omega arith)
@@ -90,7 +91,8 @@ module _ (img : List ℕ) (time from k : ℕ) (marks : List ℕ) (f : Marks img 
   unfolding mark_of
   owner_is b l u e = mark-at b l u ∙ rw e
 
-  its_mark : (u b : ℕ) → u < 64 → eqb (mark_of img time b) u ≡ (expired img time b && eqb (owner_of (header_of img b)) u)
+  its_mark : (u b : ℕ) → u < 64 → eqb (mark_of img time b) u
+      ≡ (expired img time b && eqb (owner_of (header_of img b)) u)
   unfolding mark_of
   its_mark u b h = go (expired img time b) refl
     where
@@ -173,7 +175,8 @@ bad_header img time from k n its e g =
     sym (rw v)
 
 -- where nothing is damaged, all visited headers are good
-well : (img : List ℕ) (key time : ℕ) → scavenge_damaged img key time ≡ false → visited_good img key (reach img key) ≡ true
+well : (img : List ℕ) (key time : ℕ) → scavenge_damaged img key time ≡ false
+    → visited_good img key (reach img key) ≡ true
 unfolding scavenge_damaged
 well img key time e =
     not-false _

@@ -42,7 +42,8 @@ visits-all p (suc most) (suc wanted) b h = ap suc
     (visits-all p most (suc wanted - one p b) (b + 1) (omega (arith, one-le p b)))
 
 module _ (img : List ℕ) (key client most wanted : ℕ) (h : most ≤ wanted) where
-  pub all_bad : visited_of img key (visits (owned_by img client) most wanted key) ≡ Bad → false ≡ visited_good img key most
+  pub all_bad : visited_of img key (visits (owned_by img client) most wanted key) ≡ Bad
+      → false ≡ visited_good img key most
   all_bad e = sym (told_bad img key most (rw (visits-all (owned_by img client) most wanted key h) at e))
 
   pub all_told : (k : ℕ) → visited_of img key (visits (owned_by img client) most wanted key) ≡ Good k

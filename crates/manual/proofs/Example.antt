@@ -200,7 +200,8 @@ created = inr (not_full, (new, refl))
 
 pub scavenged : Scavenge k (by 0 7 SuccessReport) third fourth 0 4 1
 unfolding k picked just
-scavenged = (scans k).scavenge {p = by 0 7 SuccessReport} {s = third} {s' = fourth} shows_third 0 (omega arith) refl refl
+scavenged = (scans k).scavenge {p = by 0 7 SuccessReport} {s = third} {s' = fourth} shows_third 0
+    (omega arith) refl refl
     (λ x. refl) (λ x. refl)
 
 pub still_sound : Invariant k fourth

@@ -89,7 +89,8 @@ module _ (k : Constants) (c n : ℕ) (r r' : Report) (s s' s'' : SS) where
       one_state s' s'' (put_same (only id? ⩤ s.blocks) id! new) a.blocks b.blocks a.newids b.newids
 
   set_expiry : {id? expiry? : ℕ}
-      → Set_expiry_success k (by c n r) s s' id? expiry? → Set_expiry_success k (by c n r') s s'' id? expiry? → ΞSS s' s''
+      → Set_expiry_success k (by c n r) s s' id? expiry? → Set_expiry_success k (by c n r') s s'' id? expiry?
+      → ΞSS s' s''
   set_expiry {id?} a b =
       let old = same_old a.old b.old in
       let new = same_block a.newblock b.newblock (cc) (cc) (cc) (cc) in

@@ -39,8 +39,8 @@ use Rattle.promise.specs.Call.{Call, Create, Read, Status, Destroy, Replace, Set
 use Rattle.promise.specs.Call.{Scavenge, Profile, rows_of, outcome, refused_outcome}
 
 pub in_order_lem : (c : Call) (img : List ℕ) → rising 1 (rows_of c img) ≡ true
-unfolding rising rows_of create_rows read_rows status_rows destroy_rows replace_rows set_expiry_rows get_ids_rows get_count_rows
-    scavenge_rows profile_rows
+unfolding rising rows_of create_rows read_rows status_rows destroy_rows replace_rows set_expiry_rows get_ids_rows
+    get_count_rows scavenge_rows profile_rows
 in_order_lem (Create client expiry bytes time) img = refl
 in_order_lem (Read client id buffer) img = refl
 in_order_lem (Status client id) img = refl
@@ -63,8 +63,8 @@ reports_it f r done refused p q = go (succeeds r) refl
 
 pub report_lowest : (t : Tariff) (c : Call) (img : List ℕ) → (outcome t c img).report ≡ lowest (rows_of c img)
 unfolding outcome rows_of create_report create_answer read_report read_answer status_report status_answer destroy_report
-    destroy_answer replace_report replace_answer set_expiry_report set_expiry_answer get_ids_report get_ids_answer get_count_report
-    get_count_answer scavenge_report scavenge_answer profile_report profile_answer
+    destroy_answer replace_report replace_answer set_expiry_report set_expiry_answer get_ids_report get_ids_answer
+    get_count_report get_count_answer scavenge_report scavenge_answer profile_report profile_answer
 report_lowest t (Create client expiry bytes time) img = reports_it (λ (a : CreateAnswer). a.receipt.report)
     (create_report img client expiry bytes time) _ _ refl refl
 report_lowest t (Read client id buffer) img = reports_it (λ (a : ReadAnswer). a.receipt.report)
@@ -88,7 +88,8 @@ report_lowest t (Profile client key buffer) img = reports_it (λ (a : ProfileAns
 
 -- THE LAW of reports, of every call on every image: the report is r exactly where row r applies and no lower one does
 pub given_report : (t : Tariff) (c : Call) (img : List ℕ) (r : Report)
-    → ((outcome t c img).report ≡ r → Given (rows_of c img) r) × (Given (rows_of c img) r → (outcome t c img).report ≡ r)
+    → ((outcome t c img).report ≡ r → Given (rows_of c img) r)
+    × (Given (rows_of c img) r → (outcome t c img).report ≡ r)
 given_report t c img r =
     let e = exactly (rows_of c img) (in_order_lem c img) r in
     (λ p. e.0 (sym (report_lowest t c img) ∙ p), λ g. report_lowest t c img ∙ e.1 g)
@@ -97,10 +98,10 @@ given_report t c img r =
 -- were
 pub refusal_is : (t : Tariff) (c : Call) (img : List ℕ) → succeeds (lowest (rows_of c img)) ≡ false
     → outcome t c img ≡ refused_outcome t c img (lowest (rows_of c img))
-unfolding blank outcome rows_of create_report create_answer create_image read_report read_answer read_buffer status_report
-    status_answer destroy_report destroy_answer destroy_image replace_report replace_answer replace_image set_expiry_report
-    set_expiry_answer set_expiry_image get_ids_report get_ids_answer get_ids_buffer get_count_report get_count_answer scavenge_report
-    scavenge_answer scavenge_image profile_report profile_answer profile_buffer
+unfolding blank outcome rows_of create_report create_answer create_image read_report read_answer read_buffer
+    status_report status_answer destroy_report destroy_answer destroy_image replace_report replace_answer replace_image
+    set_expiry_report set_expiry_answer set_expiry_image get_ids_report get_ids_answer get_ids_buffer get_count_report
+    get_count_answer scavenge_report scavenge_answer scavenge_image profile_report profile_answer profile_buffer
 refusal_is t (Create client expiry bytes time) img e = rw e
 refusal_is t (Read client id buffer) img e = rw e
 refusal_is t (Status client id) img e = rw e

@@ -77,7 +77,8 @@ good-later clock clock' b f h l e = go f (good_either clock b f h e)
     go f (taken r u q) = rw q (is_taken clock' b h (later_right clock clock' b h l r))
 
 -- used, by the map and by the header
-pub used-here : (clock b : ℕ) (f : Bool) (h : List ℕ) → good_header clock b f h ≡ true → is_used h ≡ true → Used clock b h
+pub used-here : (clock b : ℕ) (f : Bool) (h : List ℕ) → good_header clock b f h ≡ true → is_used h ≡ true
+    → Used clock b h
 used-here clock b f h e u = go (good_either clock b f h e)
   where
     go : Good clock b f h → Used clock b h

@@ -19,7 +19,8 @@ zero-unused (x ∷ h) e =
     let z = eqb-true x 0 (both (eqb x 0) (all_zero h) e).0 in
     ne_eqb (x + 256 * 0) 1 (λ q. omega arith)
 
-owner_below : (clock b : ℕ) (f : Bool) (h : List ℕ) → good_header clock b f h ≡ true → is_used h ≡ true → owner_of h < 64
+owner_below : (clock b : ℕ) (f : Bool) (h : List ℕ) → good_header clock b f h ≡ true → is_used h ≡ true
+    → owner_of h < 64
 unfolding good_header used_right
 owner_below clock b f h e u = go (all_zero h) refl (used_right clock b h) refl f e
   where
@@ -29,6 +30,7 @@ owner_below clock b f h e u = go (all_zero h) refl (used_right clock b h) refl f
     go false p true q f e = omega (arith, leb-true (owner_of h) 63 (nth _ 3 q))
     go false p false q f e = absurd (true≢false (sym e))
 
-pub client : (img : List ℕ) (b : ℕ) → good img b ≡ true → is_used (header_of img b) ≡ true → owner_of (header_of img b) < 64
+pub client : (img : List ℕ) (b : ℕ) → good img b ≡ true → is_used (header_of img b) ≡ true
+    → owner_of (header_of img b) < 64
 unfolding good
 client img b e u = owner_below _ _ _ (header_of img b) e u

@@ -48,7 +48,8 @@ module _ (n : ℕ) (img : List ℕ) (r : Number n) where
   freed s b = over s (map_at n + b / 8) (bytes_of 1 (map_byte n s b + weight b))
 
   abbrev lowered : List ℕ → ℕ → List ℕ
-  lowered s b = over s (count_at n (owner_of (header_of img b))) (bytes_of 8 (count_of n s (owner_of (header_of img b)) - 1))
+  lowered s b = over s (count_at n (owner_of (header_of img b)))
+      (bytes_of 8 (count_of n s (owner_of (header_of img b)) - 1))
 
   keeps_zeroed : (s : List ℕ) (b : ℕ) → Image s → Block b → Image (zeroed s b)
   keeps_zeroed s b q p = length_over s (header_at b) (blank 64) (simp sizes (omega arith)) ∙ q
@@ -154,7 +155,8 @@ scavenge_removes img key time r l e =
     let n : ℕ = n_of img in
     let bs : List ℕ = gone img key time in
     let s : List ℕ = over img (trailer_at n + 24) (bytes_of 8 time) in
-    let q : length s ≡ size_of n = length_over img (trailer_at n + 24) (bytes_of 8 time) (simp sizes (omega arith)) ∙ l in
+    let q : length s ≡ size_of n = length_over img (trailer_at n + 24) (bytes_of 8 time) (simp sizes (omega arith))
+    ∙ l in
     in_turn n img r s bs q e ∙ blockwise n img r s bs q e
 
 -- where all visited headers are good, such blocks they are

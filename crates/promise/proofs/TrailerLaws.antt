@@ -14,7 +14,8 @@ use Rattle.word.specs.Word.{part, le, word_at, bytes_of, blank, all_zero, Bytes}
 use Rattle.word.proofs.Laws.{length_part, part_whole, part_split, bytes-part, word_bytes, le-bytes_of, zero-blank}
 use Rattle.word.proofs.Laws.{all_zero-blank, bytes_append, bytes-bytes_of, bytes-blank}
 use Rattle.promise.specs.Layout.{number_right, trailer_at, size_of}
-use Rattle.promise.specs.Trailer.{trailer_of, n_of, clock_of, back_to_headers, back_to_map, back_to_counts, back_to_data}
+use Rattle.promise.specs.Trailer.{trailer_of, n_of, clock_of, back_to_headers, back_to_map, back_to_counts}
+use Rattle.promise.specs.Trailer.{back_to_data}
 use Rattle.promise.specs.Trailer.{mark, right_trailer, trailer_right, trailer_bytes}
 
 -- ---- N
@@ -126,7 +127,8 @@ module _ (n clock : ℕ) (r : Number n) (c : clock < 2 ^ 40) where
       → word_at k (trailer_bytes n clock) at ≡ v
   field at k v f p = ap le p ∙ le-bytes_of k v f
 
-  zeroed : (at k : ℕ) → part (trailer_bytes n clock) at k ≡ blank k → all_zero (part (trailer_bytes n clock) at k) ≡ true
+  zeroed : (at k : ℕ) → part (trailer_bytes n clock) at k ≡ blank k
+      → all_zero (part (trailer_bytes n clock) at k) ≡ true
   zeroed at k p = ap all_zero p ∙ all_zero-blank k
 
   at_number : word_at 4 (trailer_bytes n clock) 0 ≡ n

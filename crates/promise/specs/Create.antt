@@ -32,7 +32,8 @@ no_space img = leb (n_of img) (lowest_free img)
 -- 9: the free block that Create found has a header that is not good, or the client's count is N or more
 unfoldable pub create_damaged : List ℕ → (client : ℕ) → Bool
 create_damaged img client =
-    ltb (lowest_free img) (n_of img) && (not (good img (lowest_free img)) || leb (n_of img) (count_of (n_of img) img client))
+    ltb (lowest_free img) (n_of img)
+    && (not (good img (lowest_free img)) || leb (n_of img) (count_of (n_of img) img client))
 
 unfoldable pub create_rows : List ℕ → (client expiry : ℕ) → List ℕ → (time : ℕ) → List Row
 create_rows img client expiry bytes time =
@@ -55,7 +56,10 @@ create_writes img client expiry bytes time =
     let b : ℕ = lowest_free img in
     clock_set n time
     ∷ record { at = data_at n b; bytes = part bytes 16 512 }
-    ∷ record { at = header_at b; bytes = header_bytes client (id_of time b) time (later_of time expiry) (part bytes 0 16) }
+    ∷ record {
+      at = header_at b;
+      bytes = header_bytes client (id_of time b) time (later_of time expiry) (part bytes 0 16);
+    }
     ∷ bit_taken n img b
     ∷ count_set n client (count_of n img client + 1)
     ∷ []

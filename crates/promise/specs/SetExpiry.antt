@@ -47,7 +47,8 @@ set_expiry_answer t img client id expiry time =
     let h : List ℕ = header_for img id in
     when (succeeds r)
     (record {
-      receipt = receipt Success (set_expiry_charge t (created_of h) (expires_of h) (created_of h) (later_of time expiry));
+      receipt = receipt Success
+          (set_expiry_charge t (created_of h) (expires_of h) (created_of h) (later_of time expiry));
     })
     (record { receipt = refusal t r })
 

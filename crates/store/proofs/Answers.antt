@@ -22,7 +22,8 @@ use Rattle.promise.specs.Header.{header_of, owner_of, created_of, expires_of}
 use Rattle.promise.specs.Counts.{count_of, service_block}
 use Rattle.promise.specs.Refusals.{Row, row, lowest, receipt, refusal}
 use Rattle.promise.specs.Lookup.{leads_to}
-use Rattle.promise.specs.GetCount.{GetCountPromise, get_count_answer, get_count_report, get_count_rows, get_count_damaged}
+use Rattle.promise.specs.GetCount.{GetCountPromise, get_count_answer, get_count_report, get_count_rows}
+use Rattle.promise.specs.GetCount.{get_count_damaged}
 use Rattle.promise.specs.Status.{StatusPromise, status_answer, status_report, status_rows}
 use Rattle.promise.specs.Read.{ReadPromise, read_answer, read_buffer, read_report, read_rows}
 use Rattle.image.specs.Image.{Laid, Known}
@@ -108,7 +109,8 @@ sighted img client id room n b e =
     }
 
 pub header_within : (img : List ℕ) (client id : ℕ) (room : Bool) (n : ℕ) (b : BlockNum)
-    → sought_of (lowest (seek_rows img client id room)) (n_of img) (leads_to id) ≡ Found n b → 64 * b.0 + 64 ≤ length img
+    → sought_of (lowest (seek_rows img client id room)) (n_of img) (leads_to id) ≡ Found n b
+    → 64 * b.0 + 64 ≤ length img
 header_within img client id room n b e =
     let s = sighted img client id room n b e in
     omega (arith, s.there.below, s.its_n, s.its_b, s.known.laid.size)

@@ -26,10 +26,12 @@ use Rattle.promise.specs.Trailer.{n_of, clock_of, clock_set}
 use Rattle.promise.specs.Header.{header_of, owner_of, created_of, expires_of, later_of, header_zeroed}
 use Rattle.promise.specs.Map.{free, bit_freed}
 use Rattle.promise.specs.Counts.{count_of, count_set}
-use Rattle.promise.specs.Refusals.{Row, row, lowest, succeeds, bad_image, bad_user, bad_now, not_later, receipt, refusal}
+use Rattle.promise.specs.Refusals.{Row, row, lowest, succeeds, bad_image, bad_user, bad_now, not_later, receipt}
+use Rattle.promise.specs.Refusals.{refusal}
 use Rattle.promise.proofs.RefusalLaws.{rising}
 use Rattle.promise.specs.Lookup.{leads_to, header_for, lookup_damaged, no_such_block, not_owner}
-use Rattle.promise.specs.SetExpiry.{SetExpiryPromise, set_expiry_answer, set_expiry_image, set_expiry_report, set_expiry_rows}
+use Rattle.promise.specs.SetExpiry.{SetExpiryPromise, set_expiry_answer, set_expiry_image, set_expiry_report}
+use Rattle.promise.specs.SetExpiry.{set_expiry_rows}
 use Rattle.promise.specs.SetExpiry.{set_expiry_writes}
 use Rattle.promise.specs.Destroy.{DestroyPromise, destroy_answer, destroy_image, destroy_report, destroy_rows}
 use Rattle.promise.specs.Destroy.{destroy_writes, destroy_damaged}
@@ -114,7 +116,8 @@ module _ (t : Tariff) (img : List ℕ) (client id expiry time : ℕ) (x : Receip
   unfolding set_expiry_report set_expiry_rows changing_rows reading_rows time_rows bad_times own_rows find_rows lowest
   set_report = refl
 
-  pub set_refused : (n b : ℕ) (r : Report) → sought_of (lowest (seek_rows img client id expiry true time)) n b ≡ Refused r
+  pub set_refused : (n b : ℕ) (r : Report) → sought_of (lowest (seek_rows img client id expiry true time)) n b
+      ≡ Refused r
       → x ≡ refusal t r
       → SetExpiryPromise t img client id expiry time (record { receipt = x }) img
   unfolding set_expiry_answer set_expiry_image
@@ -161,7 +164,8 @@ module _ (t : Tariff) (img : List ℕ) (client id time : ℕ) (x : Receipt) wher
       (count_last (lookup_damaged img id) (no_such_block img id) (not_owner img client id)
       (eqb (count_of (n_of img) img (owner_of (header_for img id))) 0)))
 
-  pub destroy_refused : (n b : ℕ) (r : Report) → sought_of (lowest (seek_rows img client id 0 true time)) n b ≡ Refused r
+  pub destroy_refused : (n b : ℕ) (r : Report) → sought_of (lowest (seek_rows img client id 0 true time)) n b
+      ≡ Refused r
       → x ≡ refusal t r
       → DestroyPromise t img client id time (record { receipt = x }) img
   unfolding destroy_answer destroy_image
@@ -205,7 +209,8 @@ module _ (t : Tariff) (img : List ℕ) (client id : ℕ) (bytes : List ℕ) (tim
   unfolding replace_report replace_rows changing_rows reading_rows time_rows own_rows find_rows
   replace_report_lem = rw (no_expiry time)
 
-  pub replace_refused : (n b : ℕ) (r : Report) → sought_of (lowest (seek_rows img client id 0 room time)) n b ≡ Refused r
+  pub replace_refused : (n b : ℕ) (r : Report) → sought_of (lowest (seek_rows img client id 0 room time)) n b
+      ≡ Refused r
       → x ≡ refusal t r
       → ReplacePromise t img client id bytes time (record { receipt = x; id = ident null_id }) img
   unfolding replace_answer replace_image

@@ -148,15 +148,18 @@ module _ (t : Tariff) (img : List ℕ) (client expiry : ℕ) (bytes : List ℕ) 
   abbrev rest : List Row
   rest = row (leb (n_of img) (count_of (n_of img) img client)) Damaged ∷ []
 
-  create_report_lem : create_report img client expiry bytes time ≡ lowest (seek_rows img client expiry room time ++ rest)
+  create_report_lem : create_report img client expiry bytes time
+      ≡ lowest (seek_rows img client expiry room time ++ rest)
   unfolding create_report create_rows create_damaged changing_rows reading_rows time_rows bad_times place_rows
   create_report_lem =
-      same_rest (row (bad_image img) BadImage ∷ row (bad_user client) BadUser ∷ row (bad_times expiry time) BadTime ∷ row
+      same_rest (row (bad_image img) BadImage ∷ row (bad_user client) BadUser ∷ row (bad_times expiry time) BadTime
+      ∷ row
       (not_later img time) ClockNotLater ∷ []) _ _
       (count_last (not room) (ltb (lowest_free img) (n_of img)) (good img (lowest_free img)) (no_space img)
       (leb (n_of img) (count_of (n_of img) img client)) (leb-not (n_of img) (lowest_free img)))
 
-  pub create_refused : (n b : ℕ) (r : Report) → sought_of (lowest (seek_rows img client expiry room time)) n b ≡ Refused r
+  pub create_refused : (n b : ℕ) (r : Report) → sought_of (lowest (seek_rows img client expiry room time)) n b
+      ≡ Refused r
       → x ≡ refusal t r
       → CreatePromise t img client expiry bytes time (record { receipt = x; id = ident null_id }) img
   unfolding create_answer create_image

@@ -68,7 +68,8 @@ module _ (img : List ℕ) (id n : ℕ) where
   bad_room room e = rw e
 
   module _ (room : Bool) (r : room ≡ true) where
-    pub damaged : lookup_of img id ≡ Broken → Refused Damaged ≡ sought_of (lowest (find_rows img id room)) n (leads_to id)
+    pub damaged : lookup_of img id ≡ Broken → Refused Damaged
+        ≡ sought_of (lowest (find_rows img id room)) n (leads_to id)
     unfolding sought_of lowest find_rows lookup_of
     damaged e = rw (r, (was_first (lookup_damaged img id) (λ q. whole (no_such_block img id) q) e).0)
       where
@@ -102,7 +103,8 @@ pub record There (img : List ℕ) (id : ℕ) : Type 0 where
 is_there : (img : List ℕ) (id : ℕ) → lookup_damaged img id ≡ false → no_such_block img id ≡ false → There img id
 unfolding lookup_damaged no_such_block good
 is_there img id d m =
-    let w = both (is_shaped img id && is_used (header_for img id)) (eqb (id_in (header_for img id)) id) (not-false _ m) in
+    let w = both (is_shaped img id && is_used (header_for img id)) (eqb (id_in (header_for img id)) id)
+    (not-false _ m) in
     let v = both (is_shaped img id) (is_used (header_for img id)) w.0 in
     let e : not (good img (leads_to id)) ≡ false = rw v.0 at d in
     go v.1 (shaped_below (n_of img) (undone id) v.0) (good_either _ _ _ _ (not-false _ e))

@@ -27,7 +27,8 @@ use Rattle.store.specs.declared.lookup.Sought.TheVariants.{Refused, Found}
 -- ---- an id looked up
 
 unfoldable pub lookup_of : List ℕ → (id : ℕ) → Lookup
-lookup_of img id = when (lookup_damaged img id) Broken (when (no_such_block img id) Missing (At (block_num (leads_to id))))
+lookup_of img id = when (lookup_damaged img id) Broken
+    (when (no_such_block img id) Missing (At (block_num (leads_to id))))
 
 -- room: the lent buffer is of 528 bytes, or none is wanted
 unfoldable pub find_rows : List ℕ → (id : ℕ) → (room : Bool) → List Row

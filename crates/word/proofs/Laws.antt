@@ -1,8 +1,11 @@
 -- What a reader wants to know of runs of bytes, each over the width: lengths, bounds, that the two spellings of a
 -- number undo one another, and what is read after a write, at the same place and at another.
 -- Assumes nothing.
-use Rattle.std.specs.Prelude.{ℕ, zero, suc, ◌+◌, ◌*◌, ◌-◌, ◌/◌, ◌%◌, ◌^◌, ◌≤◌, ◌<◌, min, ◌≡◌, refl, true, ◌⊎◌, eqb, take, replicate}
-use Rattle.std.proofs.Common.{sym, ap₂, ◌∙◌, inl, inr, ⊎_elim, add-zero, pow-suc, div-lt_iff_lt-mul, le_of_eq, le_trans, eqb-true, lit<, length-append, length-drop, take-append-drop, drop_of_length-le, ext_get_or, take_at, drop-drop, take_all}
+use Rattle.std.specs.Prelude.{ℕ, zero, suc, ◌+◌, ◌*◌, ◌-◌, ◌/◌, ◌%◌, ◌^◌, ◌≤◌, ◌<◌, min, ◌≡◌, refl, true, ◌⊎◌, eqb}
+use Rattle.std.specs.Prelude.{take, replicate}
+use Rattle.std.proofs.Common.{sym, ap₂, ◌∙◌, inl, inr, ⊎_elim, add-zero, pow-suc, div-lt_iff_lt-mul, le_of_eq, le_trans}
+use Rattle.std.proofs.Common.{eqb-true, lit<, length-append, length-drop, take-append-drop, drop_of_length-le}
+use Rattle.std.proofs.Common.{ext_get_or, take_at, drop-drop, take_all}
 use Rattle.std.proofs.Math.Path.{ap}
 use mathlib.Core.List.{List, [], ◌∷◌, ◌++◌, append_assoc, append-nil}
 use Rattle.std.proofs.Math.Nat.{pow-zero, pow-le-pow_right}
@@ -183,7 +186,8 @@ written : (l : List ℕ) (at : ℕ) (vs : List ℕ) → at + length vs ≤ lengt
 written l at vs h x p q =
     let e : at + (x - at) ≡ x = omega arith in
     sym
-    (ap (λ r. get_or r (x - at) 0) (sym (same l at vs h)) ∙ get_or-part (over l at vs) at (length vs) (x - at) (omega arith)
+    (ap (λ r. get_or r (x - at) 0) (sym (same l at vs h))
+    ∙ get_or-part (over l at vs) at (length vs) (x - at) (omega arith)
     ∙ ap (λ (y : ℕ). get_or (over l at vs) y 0) e)
 
 pub over_swap : (l : List ℕ) (a : ℕ) (xs : List ℕ) (b : ℕ) (ys : List ℕ) → a + length xs ≤ length l
@@ -316,7 +320,11 @@ pub part-replicate : (k v at n : ℕ) → at + n ≤ k → part (replicate k v) 
 part-replicate k v at n h =
     ext_get_or 0 (part (replicate k v) at n) (replicate n v) (simp (length-part_any, length-replicate) (omega arith))
     (λ i p. let b : i < n = omega (arith, simp (length-part_any, length-replicate) at p) in
-    rw (get_or-part (replicate k v) at n i b, get_or-replicate k (at + i) v 0 (omega arith), get_or-replicate n i v 0 b))
+    rw (
+      get_or-part (replicate k v) at n i b,
+      get_or-replicate k (at + i) v 0 (omega arith),
+      get_or-replicate n i v 0 b,
+    ))
 
 pub part-blank : (k at n : ℕ) → at + n ≤ k → part (blank k) at n ≡ blank n
 unfolding blank

@@ -42,13 +42,15 @@ word_turn l at i k h =
     let e : at + (i + 1) ≡ at + i + 1 = omega arith in
     rw (e, part_turn l (at + i) k h)
 
-pub word_first : (l : List ℕ) (at k : ℕ) → at < length l → word_at (suc k) l at ≡ get_or l at 0 + 256 * word_at k l (at + 1)
+pub word_first : (l : List ℕ) (at k : ℕ) → at < length l
+    → word_at (suc k) l at ≡ get_or l at 0 + 256 * word_at k l (at + 1)
 unfolding le
 word_first l at k h = rw (part_turn l at k h)
 
 -- four bytes in a row, and eight as twice four
 pub word_four : (l : List ℕ) (at : ℕ) → at + 4 ≤ length l
-    → get_or l at 0 + 256 * get_or l (at + 1) 0 + 65536 * get_or l (at + 2) 0 + 16777216 * get_or l (at + 3) 0 ≡ word_at 4 l at
+    → get_or l at 0 + 256 * get_or l (at + 1) 0 + 65536 * get_or l (at + 2) 0 + 16777216 * get_or l (at + 3) 0
+    ≡ word_at 4 l at
 word_four l at h =
     omega (
       arith,
@@ -121,7 +123,8 @@ piece_turn l at i n vs h f =
 
 -- sixteen bytes by the two numbers that they spell
 pub two_words : (l : List ℕ) (at : ℕ) (vs : List ℕ) (i : ℕ) → Bytes vs → i + 16 ≤ length vs → at + 16 ≤ length l
-    → over (over l at (bytes_of 8 (word_at 8 vs i))) (at + 8) (bytes_of 8 (word_at 8 vs (i + 8))) ≡ over l at (part vs i 16)
+    → over (over l at (bytes_of 8 (word_at 8 vs i))) (at + 8) (bytes_of 8 (word_at 8 vs (i + 8)))
+    ≡ over l at (part vs i 16)
 two_words l at vs i b h f =
     let n = length_part vs i 8 (omega arith) in
     rw (word_bytes 8 vs i b (omega arith), word_bytes 8 vs (i + 8) b (omega arith), part_split vs i 8 8 h)
@@ -143,7 +146,8 @@ pub zero_turn : (l : List ℕ) (at k i acc : ℕ) → i < k → at + k ≤ lengt
     → (eqb (bit_or acc (get_or l (at + i) 0)) 0 && all_zero (part l (at + (i + 1)) (k - (i + 1))))
     ≡ (eqb acc 0 && all_zero (part l (at + i) (k - i)))
 unfolding all_zero
-zero_turn l at k i acc h f = rw (part_left l at k i h f, or_zero) (and_assoc (eqb acc 0) (eqb (get_or l (at + i) 0) 0) _)
+zero_turn l at k i acc h f = rw (part_left l at k i h f, or_zero)
+    (and_assoc (eqb acc 0) (eqb (get_or l (at + i) 0) 0) _)
 
 -- ---- a zero test by the number that the bytes spell
 

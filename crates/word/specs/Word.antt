@@ -1,6 +1,7 @@
 -- Runs of bytes in a list of bytes, and the numbers that they spell, lowest byte first. Each is over the width k, in
 -- bytes.
-use Rattle.std.specs.Prelude.{ℕ, zero, suc, ◌+◌, ◌*◌, ◌/◌, ◌%◌, ◌^◌, ◌<◌, Bool, true, ◌&&◌, List, [], ◌∷◌, eqb, take, drop, get_or, replicate}
+use Rattle.std.specs.Prelude.{ℕ, zero, suc, ◌+◌, ◌*◌, ◌/◌, ◌%◌, ◌^◌, ◌<◌, Bool, true, ◌&&◌, List, [], ◌∷◌, eqb, take}
+use Rattle.std.specs.Prelude.{drop, get_or, replicate}
 
 -- the k bytes from a place
 unfoldable pub part : List ℕ → ℕ → ℕ → List ℕ

@@ -9,7 +9,8 @@ use Rattle.word.proofs.write.Given as goal
 
 abbrev pub invariant-loop-i : goal.invariant-loop-i
 invariant-loop-i l =
-    (l.i ≤ l.k) × (length l.s ≡ length l.initial.s) × (storing l.s (l.at + l.i) (bytes_of (l.k - l.i) l.rest) ≡ storing l.initial.s l.at (bytes_of l.k l.v))
+    (l.i ≤ l.k) × (length l.s ≡ length l.initial.s) × (storing l.s (l.at + l.i) (bytes_of (l.k - l.i) l.rest)
+    ≡ storing l.initial.s l.at (bytes_of l.k l.v))
 
 abbrev pub decreases-loop-i : goal.decreases-loop-i
 decreases-loop-i l = l.k - l.i

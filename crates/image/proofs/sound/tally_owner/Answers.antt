@@ -23,10 +23,12 @@ pub bounds-tally-u : goal.bounds-tally-u
 bounds-tally-u c =
     let place : (c.get64-x.result / 256 ≡ owner_of c.args.h.now)
     × (owner_of c.args.h.now < 64) = owner_word c.args.h.now c.get64-x.result
-    (λ x. omega (arith, c.shared_slice_known-1.given x)) c.requires.0 c.get64-x.ensures c.requires.2 in omega (arith, place, c.requires.1)
+    (λ x. omega (arith, c.shared_slice_known-1.given x)) c.requires.0 c.get64-x.ensures c.requires.2 in
+    omega (arith, place, c.requires.1)
 
 pub bounds-tally-u-2 : goal.bounds-tally-u-2
 bounds-tally-u-2 c =
     let place : (c.get64-x.result / 256 ≡ owner_of c.args.h.now)
     × (owner_of c.args.h.now < 64) = owner_word c.args.h.now c.get64-x.result
-    (λ x. omega (arith, c.shared_slice_known-1.given x)) c.requires.0 c.get64-x.ensures c.requires.2 in omega (arith, place, c.requires.1)
+    (λ x. omega (arith, c.shared_slice_known-1.given x)) c.requires.0 c.get64-x.ensures c.requires.2 in
+    omega (arith, place, c.requires.1)

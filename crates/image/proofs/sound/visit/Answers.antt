@@ -12,7 +12,10 @@ returns-then-bit c =
     let img = c.args.img.now in
     let b = c.args.b.0 in
     let z = c.is_zero8.ensures ∙ zero-at img b in
-    record { answer = z ∙ good_is_zero img _ _ b c.requires.0 (sym c.requires.2 ∙ c.if-bit.true); tally = free_tally _ _ _ z }
+    record {
+      answer = z ∙ good_is_zero img _ _ b c.requires.0 (sym c.requires.2 ∙ c.if-bit.true);
+      tally = free_tally _ _ _ z;
+    }
 
 pub returns-then-not-used_right : goal.returns-then-not-used_right
 returns-then-not-used_right c =
@@ -21,7 +24,8 @@ returns-then-not-used_right c =
     let b = c.args.b.0 in
     c.used_right.ensures
     ∙ ap (λ h. used_right c.args.clock.0 b h) (lent_header img b)
-    ∙ good_is_used img _ _ b c.requires.0 (sym c.requires.2 ∙ c.if-bit.false) in record { answer = sym (c.if-not-used_right.true) ∙ answer; tally = refl }
+    ∙ good_is_used img _ _ b c.requires.0 (sym c.requires.2 ∙ c.if-bit.false) in
+    record { answer = sym (c.if-not-used_right.true) ∙ answer; tally = refl }
 
 pub tally_owner-requires : goal.tally_owner-requires
 tally_owner-requires c =

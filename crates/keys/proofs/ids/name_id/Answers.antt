@@ -9,7 +9,8 @@ use Rattle.keys.proofs.ids.name_id.Goals as goal
 
 pub returns-then-not-is_owned : goal.returns-then-not-is_owned
 returns-then-not-is_owned c =
-    let both = not_named _ _ _ _ _ (sym c.is_owned.ensures ∙ c.if-not-is_owned.true) in record { entries = both.0; bytes = both.1 }
+    let both = not_named _ _ _ _ _ (sym c.is_owned.ensures ∙ c.if-not-is_owned.true) in
+    record { entries = both.0; bytes = both.1 }
 
 pub put64-requires : goal.put64-requires
 put64-requires c =

@@ -13,7 +13,8 @@ abbrev pub invariant-loop-left : goal.invariant-loop-left
 invariant-loop-left l =
     (l.b + l.left ≡ l.from + l.visited)
     × (length l.ids ≡ length l.initial.ids)
-    × (l.k + length (picked (owned_by l.img l.client.0) l.b l.left) ≡ length (picked (owned_by l.img l.client.0) l.from l.visited))
+    × (l.k + length (picked (owned_by l.img l.client.0) l.b l.left)
+    ≡ length (picked (owned_by l.img l.client.0) l.from l.visited))
     × (over l.ids (8 * l.k) (rows (id_row l.img) (picked (owned_by l.img l.client.0) l.b l.left))
     ≡ over l.initial.ids 0 (rows (id_row l.img) (picked (owned_by l.img l.client.0) l.from l.visited)))
 

@@ -7,7 +7,8 @@ use Rattle.keys.proofs.profile.enter_block.Goals as goal
 
 pub returns-then-not-is_used : goal.returns-then-not-is_used
 returns-then-not-is_used c =
-    let both = not_entered _ _ _ _ (sym c.is_used.ensures ∙ c.if-not-is_used.true) in record { entries = both.0; bytes = both.1 }
+    let both = not_entered _ _ _ _ (sym c.is_used.ensures ∙ c.if-not-is_used.true) in
+    record { entries = both.0; bytes = both.1 }
 
 pub put_entry-requires : goal.put_entry-requires
 put_entry-requires c =

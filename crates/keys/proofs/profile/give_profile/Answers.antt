@@ -11,4 +11,7 @@ overflow_cast-result c =
 
 pub returns : goal.returns
 returns c =
-    record { answer = rw (c.done.ensures, c.price.ensures, c.key_at.ensures, c.enter_blocks-entries.ensures.entries); bytes = c.enter_blocks-entries.ensures.bytes }
+    record {
+      answer = rw (c.done.ensures, c.price.ensures, c.key_at.ensures, c.enter_blocks-entries.ensures.entries);
+      bytes = c.enter_blocks-entries.ensures.bytes;
+    }

@@ -23,7 +23,8 @@ returns-then-number-gt0 c =
 pub all_good-requires : goal.all_good-requires
 all_good-requires c =
     let clear : let a = c.args in
-    number_of (lowest (manager_rows a.n a.client.0 a.key (ltb (length a.buffer.now) 1536))) ≡ 0 = let q = c.managed-report.ensures in
+    number_of (lowest (manager_rows a.n a.client.0 a.key (ltb (length a.buffer.now) 1536))) ≡ 0 = let q =
+    c.managed-report.ensures in
     omega (arith, ap (λ (x : Report). number_of x) q, c.number.ensures, c.if-number-gt0.false) in
     let fits : let a = c.args in (a.key < a.n)
     × (1536 ≤ length a.buffer.now) = let a = c.args in
@@ -37,7 +38,8 @@ all_good-requires c =
 pub returns-then-not-all_good : goal.returns-then-not-all_good
 returns-then-not-all_good c =
     let clear : let a = c.args in
-    number_of (lowest (manager_rows a.n a.client.0 a.key (ltb (length a.buffer.now) 1536))) ≡ 0 = let q = c.managed-report.ensures in
+    number_of (lowest (manager_rows a.n a.client.0 a.key (ltb (length a.buffer.now) 1536))) ≡ 0 = let q =
+    c.managed-report.ensures in
     omega (arith, ap (λ (x : Report). number_of x) q, c.number.ensures, c.if-number-gt0.false) in
     let p = c.requires in
     rw c.no_profile-then-not-all_good.ensures
@@ -47,7 +49,8 @@ returns-then-not-all_good c =
 pub give_profile-requires : goal.give_profile-requires
 give_profile-requires c =
     let clear : let a = c.args in
-    number_of (lowest (manager_rows a.n a.client.0 a.key (ltb (length a.buffer.now) 1536))) ≡ 0 = let q = c.managed-report.ensures in
+    number_of (lowest (manager_rows a.n a.client.0 a.key (ltb (length a.buffer.now) 1536))) ≡ 0 = let q =
+    c.managed-report.ensures in
     omega (arith, ap (λ (x : Report). number_of x) q, c.number.ensures, c.if-number-gt0.false) in
     let fits : let a = c.args in (a.key < a.n)
     × (1536 ≤ length a.buffer.now) = let a = c.args in
@@ -63,7 +66,8 @@ give_profile-requires c =
 pub returns : goal.returns
 returns c =
     let clear : let a = c.args in
-    number_of (lowest (manager_rows a.n a.client.0 a.key (ltb (length a.buffer.now) 1536))) ≡ 0 = let q = c.managed-report.ensures in
+    number_of (lowest (manager_rows a.n a.client.0 a.key (ltb (length a.buffer.now) 1536))) ≡ 0 = let q =
+    c.managed-report.ensures in
     omega (arith, ap (λ (x : Report). number_of x) q, c.number.ensures, c.if-number-gt0.false) in
     let p = c.requires in
     enters _ _ _ _ _ _ _ p _ clear c.reach-visited.ensures (sym c.all_good.ensures
@@ -72,7 +76,8 @@ returns c =
 pub reach-visited-requires : goal.reach-visited-requires
 reach-visited-requires c =
     let clear : let a = c.args in
-    number_of (lowest (manager_rows a.n a.client.0 a.key (ltb (length a.buffer.now) 1536))) ≡ 0 = let q = c.managed-report.ensures in
+    number_of (lowest (manager_rows a.n a.client.0 a.key (ltb (length a.buffer.now) 1536))) ≡ 0 = let q =
+    c.managed-report.ensures in
     omega (arith, ap (λ (x : Report). number_of x) q, c.number.ensures, c.if-number-gt0.false) in
     let fits : let a = c.args in (a.key < a.n)
     × (1536 ≤ length a.buffer.now) = let a = c.args in

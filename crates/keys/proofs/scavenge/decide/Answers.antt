@@ -7,7 +7,12 @@ use Rattle.keys.proofs.scavenge.decide.Goals as goal
 
 pub returns-then-not-all_good : goal.returns-then-not-all_good
 returns-then-not-all_good c =
-    let p = c.requires in record { answer = bad_header _ _ _ _ _ p.0.its_n p.2 (sym c.all_good.ensures ∙ c.if-not-all_good.true); marks = λ e. absurd (true≢false (sym e)); tally = λ e. absurd (true≢false (sym e)) }
+    let p = c.requires in record {
+      answer = bad_header _ _ _ _ _ p.0.its_n p.2
+          (sym c.all_good.ensures ∙ c.if-not-all_good.true);
+      marks = λ e. absurd (true≢false (sym e));
+      tally = λ e. absurd (true≢false (sym e));
+    }
 
 pub returns : goal.returns
 returns c =

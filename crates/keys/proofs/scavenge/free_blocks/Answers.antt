@@ -51,7 +51,11 @@ returns c =
     let l = c.loop-left in
     let p = marked a.marks.now a.from in
     let h : l.left ≤ 0 = omega arith in
-    record { gone = omega (arith, count_end p l.b l.left h); image = each-end p (freed a.n) l.img l.b l.left h ∙ l.invariant.4 }
+    record {
+      gone = omega (arith, count_end p l.b l.left h);
+      image = each-end p (freed a.n) l.img l.b l.left h
+          ∙ l.invariant.4;
+    }
 
 pub shape_of-img : goal.shape_of-img
 shape_of-img c = c.loop-left.invariant.2

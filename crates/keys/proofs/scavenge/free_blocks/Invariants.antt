@@ -12,7 +12,8 @@ invariant-loop-left l =
     (l.from ≤ l.b)
     × (l.b + l.left ≡ l.from + l.visited)
     × (length l.img ≡ length l.initial.img)
-    × (l.k + length (picked (marked l.marks l.from) l.b l.left) ≡ length (picked (marked l.marks l.from) l.from l.visited))
+    × (l.k + length (picked (marked l.marks l.from) l.b l.left)
+    ≡ length (picked (marked l.marks l.from) l.from l.visited))
     × (each (freed l.n) l.img (picked (marked l.marks l.from) l.b l.left)
     ≡ each (freed l.n) l.initial.img (picked (marked l.marks l.from) l.from l.visited))
 

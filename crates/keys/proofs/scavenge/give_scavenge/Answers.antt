@@ -11,4 +11,7 @@ overflow_cast-result c =
 
 pub returns : goal.returns
 returns c =
-    record { answer = rw (c.done.ensures, c.price.ensures, c.key_at.ensures, c.remove-count.ensures.gone); image = c.remove-count.ensures.image }
+    record {
+      answer = rw (c.done.ensures, c.price.ensures, c.key_at.ensures, c.remove-count.ensures.gone);
+      image = c.remove-count.ensures.image;
+    }

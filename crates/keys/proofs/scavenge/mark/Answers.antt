@@ -9,7 +9,8 @@ pub returns-then-not-is_used : goal.returns-then-not-is_used
 returns-then-not-is_used c = mark-unused _ _ _ (sym c.is_used.ensures ∙ c.if-not-is_used.true)
 
 pub returns-then-time-expires : goal.returns-then-time-expires
-returns-then-time-expires c = mark_stays _ _ _ _ (ap (λ (x : Tick). x.0) c.expires-expires.ensures) c.if-time-expires.true
+returns-then-time-expires c = mark_stays _ _ _ _ (ap (λ (x : Tick). x.0) c.expires-expires.ensures)
+    c.if-time-expires.true
 
 pub returns : goal.returns
 returns c =

@@ -37,4 +37,7 @@ loop-i-preserved c =
 pub returns : goal.returns
 returns c =
     let l = c.loop-i in
-    record { marks = λ i h. l.invariant.3 i (omega arith); tally = tally_end _ _ l.tally l.marks l.i (omega arith) l.invariant.3 l.invariant.4 }
+    record {
+      marks = λ i h. l.invariant.3 i (omega arith);
+      tally = tally_end _ _ l.tally l.marks l.i (omega arith) l.invariant.3 l.invariant.4;
+    }

@@ -6,7 +6,10 @@ use Rattle.keys.proofs.scavenge.remove.Goals as goal
 
 pub returns-then-count-gt0 : goal.returns-then-count-gt0
 returns-then-count-gt0 c =
-    record { gone = c.free_blocks-count.ensures.gone; image = rw (c.lower_counts.ensures, c.free_blocks-count.ensures.image, c.set_clock.ensures) }
+    record {
+      gone = c.free_blocks-count.ensures.gone;
+      image = rw (c.lower_counts.ensures, c.free_blocks-count.ensures.image, c.set_clock.ensures);
+    }
 
 pub returns-else-count-gt0 : goal.returns-else-count-gt0
 returns-else-count-gt0 c =

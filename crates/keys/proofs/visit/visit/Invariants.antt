@@ -11,7 +11,8 @@ abbrev pub invariant-loop-left : goal.invariant-loop-left
 invariant-loop-left l =
     (l.from ≤ l.b)
     × (l.b + l.left ≡ l.from + l.most)
-    × (l.b - l.from + visits (owned_by l.img l.client.0) l.left l.wanted l.b ≡ visits (owned_by l.img l.client.0) l.most l.count l.from)
+    × (l.b - l.from + visits (owned_by l.img l.client.0) l.left l.wanted l.b
+    ≡ visits (owned_by l.img l.client.0) l.most l.count l.from)
     × (all_of (good l.img) l.b (visits (owned_by l.img l.client.0) l.left l.wanted l.b)
     ≡ all_of (good l.img) l.from (visits (owned_by l.img l.client.0) l.most l.count l.from))
 
