@@ -2,7 +2,7 @@
 -- ids are alike, none is NullId, and the time and the block number come back out.
 -- Assumes nothing.
 use Rattle.std.specs.Prelude.{◌≡◌, refl, true, false, ◌&&◌, List, [], ◌∷◌, ℕ, ◌+◌, ◌-◌, ◌*◌, ◌%◌, ◌^◌, ◌≤◌, ◌<◌, ltb}
-use Rattle.std.specs.Prelude.{leb}
+use Rattle.std.specs.Prelude.{leb, Some, None}
 use Rattle.std.proofs.Common.{sym, ◌∙◌, ap}
 use native.Mathlib.Omega.{arith}
 use borrow.Author.Tests.{lt-ltb, le-leb, ltb-true, leb-true}
@@ -11,7 +11,6 @@ use Rattle.kinds.specs.Kinds.{block_num}
 use Rattle.kinds.specs.declared.BlockNum.{BlockNum}
 use Rattle.ident.specs.Ident.{null_id, place, high, low, joined, round_of, unround_of, rounds, unrounds, keys}
 use Rattle.ident.specs.Ident.{disguised, undone, id_of, time_of, block_of, shaped_in, shape_of}
-use Rattle.ident.specs.declared.Shape.TheVariants.{Unshaped, Shaped}
 
 -- ---- one round
 
@@ -114,7 +113,7 @@ module _ (time b : ℕ) (ht : time < 2 ^ 40) (hb : b < 4096) where
   never_null h e = let z : place time b ≡ 0 = sym undo_id ∙ ap undone e ∙ undone_null in omega arith
 
   -- an id that was made is shaped in every store that has its block
-  pub made_shaped : (n : ℕ) → 1 ≤ time → b < n → shape_of (undone (id_of time b)) n ≡ Shaped (block_num b)
+  pub made_shaped : (n : ℕ) → 1 ≤ time → b < n → shape_of (undone (id_of time b)) n ≡ Some (block_num b)
   unfolding shape_of shaped_in
   made_shaped n h l =
       let t : time_of (place time b) ≡ time = omega arith in
@@ -158,11 +157,11 @@ unfolding shaped_in
 shaped_below n p e = ltb-true (block_of p) n (both (ltb p (2 ^ 52) && leb 1 (time_of p)) (ltb (block_of p) n) e).1
 
 -- what the answer of `shaped` tells
-pub told_unshaped : (n p : ℕ) → shape_of p n ≡ Unshaped → shaped_in n p ≡ false
+pub told_unshaped : (n p : ℕ) → shape_of p n ≡ None → shaped_in n p ≡ false
 unfolding shape_of
 told_unshaped n p e = (was_second (shaped_in n p) (λ q. apart cc) e).0
 
-pub told_shaped : (n p : ℕ) (b : BlockNum) → shape_of p n ≡ Shaped b
+pub told_shaped : (n p : ℕ) (b : BlockNum) → shape_of p n ≡ Some b
     → (b.0 < n) × (block_of p ≡ b.0) × (shaped_in n p ≡ true)
 unfolding shape_of
 told_shaped n p b e =

@@ -1,10 +1,10 @@
 -- Document 01, Identifiers: p from a time and a block number, the four rounds that disguise it, their undoing, and
 -- 'shaped'.
-use Rattle.std.specs.Prelude.{Bool, ◌&&◌, List, [], ◌∷◌, ℕ, ◌+◌, ◌-◌, ◌*◌, ◌/◌, ◌%◌, ◌^◌, ltb, leb}
+use Rattle.std.specs.Prelude.{Bool, ◌&&◌, List, [], ◌∷◌, ℕ, ◌+◌, ◌-◌, ◌*◌, ◌/◌, ◌%◌, ◌^◌, ltb, leb, Option}
+use Rattle.std.specs.Prelude.{Some, None}
 use Rattle.plain.specs.Tests.{when}
 use Rattle.kinds.specs.Kinds.{block_num}
-use Rattle.ident.specs.declared.Shape.{Shape}
-use Rattle.ident.specs.declared.Shape.TheVariants.{Unshaped, Shaped}
+use Rattle.kinds.specs.declared.BlockNum.{BlockNum}
 
 -- zero is never issued
 abbrev pub null_id : ℕ
@@ -67,5 +67,5 @@ unfoldable pub shaped_in : (n p : ℕ) → Bool
 shaped_in n p = ltb p (2 ^ 52) && leb 1 (time_of p) && ltb (block_of p) n
 
 -- the answer, for what an id gives undone: the block number where it is shaped
-unfoldable pub shape_of : (p n : ℕ) → Shape
-shape_of p n = when (shaped_in n p) (Shaped (block_num (block_of p))) Unshaped
+unfoldable pub shape_of : (p n : ℕ) → Option BlockNum
+shape_of p n = when (shaped_in n p) (Some (block_num (block_of p))) None

@@ -2,7 +2,8 @@
 
 #![tactic(auto)]
 
-ghost use Rattle.std.specs.Prelude.{◌≡◌, ◌<◌, ◌^◌};
+ghost use Rattle.std.specs.Prelude.{◌≡◌, ◌<◌, ◌^◌, reverse};
+ghost use Rattle.std.specs.List.{fold};
 ghost use Rattle.kinds.specs.Kinds.{ident};
 ghost use Rattle.ident.specs.Ident.{round_of, unround_of, disguised, undone, id_of, shape_of};
 
@@ -29,30 +30,31 @@ fn unround(k: u32, y: u64) -> u64
     (low + (4294967296 - high * (k as u64) % 4294967296)) % 4294967296 * 4294967296 + high
 }
 
-// The rounds, up the list of constants.
+// The rounds, up a list of constants.
+fn up(keys: &[u32], p: u64) -> u64
+    ensures { result ≡ fold (λ x k. round_of k x) p keys.now }
+{
+    keys.iter().fold(p, |x, k| round(*k, x))
+}
+
+// Their undoing, down the list.
+fn down(keys: &[u32], y: u64) -> u64
+    ensures { result ≡ fold (λ x k. unround_of k x) y (reverse keys.now) }
+{
+    keys.iter().rev().fold(y, |x, k| unround(*k, x))
+}
+
 fn disguise(p: u64) -> u64
     ensures { result ≡ disguised p }
 {
-    let mut x = p;
-    let mut i: usize = 0;
-    while i < 4 {
-        x = round(KEYS[i], x);
-        i += 1;
-    }
-    x
+    up(&KEYS, p)
 }
 
-// What a number was before the rounds: down the list.
+// What a number was before the rounds.
 pub fn undo(id: Id) -> u64
     ensures { result ≡ undone id.0 }
 {
-    let mut y = id.0;
-    let mut i: usize = 4;
-    while 0 < i {
-        i -= 1;
-        y = unround(KEYS[i], y);
-    }
-    y
+    down(&KEYS, id.0)
 }
 
 // The id of a time and a block number.
@@ -65,26 +67,14 @@ pub fn make(time: Tick, b: BlockNum) -> Id
     Id(disguise(t * 4096 + n))
 }
 
-// Whether a number is shaped as an id, and of which block.
-#[derive(Clone, Copy)]
-pub enum Shape {
-    Unshaped,
-    Shaped(BlockNum),
-}
-
-pub fn shaped(id: Id, n: u32) -> Shape
+// The block of a number that is shaped as an id.
+pub fn shaped(id: Id, n: u32) -> Option<BlockNum>
     ensures { result ≡ shape_of (undone id.0) n }
 {
     let p = undo(id);
-    if 4503599627370496 <= p {
-        return Shape::Unshaped;
-    }
-    if p / 4096 < 1 {
-        return Shape::Unshaped;
+    if 4503599627370496 <= p || p / 4096 < 1 {
+        return None;
     }
     let b = (p % 4096) as u32;
-    if b < n {
-        return Shape::Shaped(BlockNum(b));
-    }
-    Shape::Unshaped
+    if b < n { Some(BlockNum(b)) } else { None }
 }

@@ -9,30 +9,30 @@ pub mod limits;
 
 // A time, in ticks of 1 ms.
 #[repr(C)]
-#[derive(Clone, Copy)]
+#[derive(Clone, Copy, PartialEq, Eq, PartialOrd, Ord)]
 pub struct Tick(pub u64);
 
 // An amount, negative where it is given back.
 #[repr(C)]
-#[derive(Clone, Copy)]
+#[derive(Clone, Copy, PartialEq, Eq)]
 pub struct Money(pub i64);
 
 // A client's number.
 #[repr(C)]
-#[derive(Clone, Copy)]
+#[derive(Clone, Copy, PartialEq, Eq)]
 pub struct User(pub u32);
 
 // A service block's number.
-#[derive(Clone, Copy)]
+#[derive(Clone, Copy, PartialEq, Eq)]
 pub struct BlockNum(pub u32);
 
 // A block's identifier. Zero is NullId.
 #[repr(C)]
-#[derive(Clone, Copy)]
+#[derive(Clone, Copy, PartialEq, Eq)]
 pub struct Id(pub u64);
 
 // What a call reports, in the order in which the reports are tested.
-#[derive(Clone, Copy)]
+#[derive(Clone, Copy, PartialEq, Eq)]
 pub enum Report {
     Success,
     BadImage,
@@ -53,26 +53,28 @@ pub enum Report {
 }
 
 // The number of a report.
-pub fn number(r: Report) -> u8
-    ensures { result ≡ number_of r }
-{
-    match r {
-        Report::Success => 0,
-        Report::BadImage => 1,
-        Report::BadUser => 2,
-        Report::BadTime => 3,
-        Report::ClockNotLater => 4,
-        Report::NotManager => 5,
-        Report::BadKey => 6,
-        Report::BadCount => 7,
-        Report::BadRoom => 8,
-        Report::Damaged => 9,
-        Report::NoSuchBlock => 10,
-        Report::NotOwner => 11,
-        Report::NoSpace => 12,
-        Report::NoSeries => 13,
-        Report::BadTag => 14,
-        Report::SequenceTwice => 15,
+impl From<Report> for u8 {
+    ghost from_gives = { λ r number. number ≡ number_of r };
+
+    fn from(r: Report) -> u8 {
+        match r {
+            Report::Success => 0,
+            Report::BadImage => 1,
+            Report::BadUser => 2,
+            Report::BadTime => 3,
+            Report::ClockNotLater => 4,
+            Report::NotManager => 5,
+            Report::BadKey => 6,
+            Report::BadCount => 7,
+            Report::BadRoom => 8,
+            Report::Damaged => 9,
+            Report::NoSuchBlock => 10,
+            Report::NotOwner => 11,
+            Report::NoSpace => 12,
+            Report::NoSeries => 13,
+            Report::BadTag => 14,
+            Report::SequenceTwice => 15,
+        }
     }
 }
 

@@ -2,7 +2,7 @@
 
 #![tactic(auto)]
 
-ghost use Rattle.std.specs.Prelude.{◌≡◌, ◌*◌, ◌<◌, ◌^◌, pos};
+ghost use Rattle.std.specs.Prelude.{◌≡◌, ◌+◌, ◌*◌, ◌<◌, ◌^◌, pos};
 ghost use Rattle.kinds.specs.Kinds.{money};
 ghost use Rattle.tariff.specs.Diff.{diff};
 ghost use Rattle.tariff.specs.Charges.{create_charge, destroy_charge, replace_charge, set_expiry_charge};
@@ -39,8 +39,7 @@ fn worth(rate: u16, at: Tick) -> u64
     requires { at.0 < 2 ^ 40 }
     ensures { (result ≡ rate * at.0) × (result < 2 ^ 56) }
 {
-    let time = at.0;
-    (rate as u64) * time
+    (rate as u64) * at.0
 }
 
 // What is owed less what is given back: the one subtraction of signed numbers.
@@ -51,20 +50,26 @@ fn net(owed: u64, back: u64) -> Money
     Money((owed as i64) - (back as i64))
 }
 
+// A price, and the storage of a block up to one time less that up to another.
+fn with_storage(p: u32, rate: u16, until: Tick, paid: Tick) -> Money
+    requires { (until.0 < 2 ^ 40) × (paid.0 < 2 ^ 40) }
+    ensures { result ≡ money (diff (p + rate * until.0) (rate * paid.0)) }
+{
+    net(p as u64 + worth(rate, until), worth(rate, paid))
+}
+
 pub fn create_charge(t: Tariff, created: Tick, expires: Tick) -> Money
     requires { (created.0 < 2 ^ 40) × (expires.0 < 2 ^ 40) }
     ensures { result ≡ money (create_charge t created.0 expires.0) }
 {
-    let p = t.create as u64;
-    net(p + worth(t.rate, expires), worth(t.rate, created))
+    with_storage(t.create, t.rate, expires, created)
 }
 
 pub fn destroy_charge(t: Tariff, created: Tick, expires: Tick, time: Tick) -> Money
     requires { (expires.0 < 2 ^ 40) × (time.0 < 2 ^ 40) }
     ensures { result ≡ money (destroy_charge t created.0 expires.0 time.0) }
 {
-    let p = t.destroy as u64;
-    net(p + worth(t.rate, time), worth(t.rate, expires))
+    with_storage(t.destroy, t.rate, time, expires)
 }
 
 // The new block is created at the time of the call, so its storage from then on takes the place of the old block's.
@@ -72,14 +77,12 @@ pub fn replace_charge(t: Tariff, created: Tick, expires: Tick, time: Tick, until
     requires { (expires.0 < 2 ^ 40) × (until.0 < 2 ^ 40) }
     ensures { result ≡ money (replace_charge t created.0 expires.0 time.0 time.0 until.0) }
 {
-    let p = t.replace as u64;
-    net(p + worth(t.rate, until), worth(t.rate, expires))
+    with_storage(t.replace, t.rate, until, expires)
 }
 
 pub fn set_expiry_charge(t: Tariff, created: Tick, expires: Tick, until: Tick) -> Money
     requires { (expires.0 < 2 ^ 40) × (until.0 < 2 ^ 40) }
     ensures { result ≡ money (set_expiry_charge t created.0 expires.0 created.0 until.0) }
 {
-    let p = t.setexpiry as u64;
-    net(p + worth(t.rate, until), worth(t.rate, expires))
+    with_storage(t.setexpiry, t.rate, until, expires)
 }

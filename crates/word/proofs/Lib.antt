@@ -1,4 +1,4 @@
-pub mod Turns
+pub mod Bytes
 pub mod Lent
 pub mod WordBits
 pub mod Laws

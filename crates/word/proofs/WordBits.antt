@@ -11,7 +11,7 @@ use Rattle.plain.specs.Numbers.{lt_or_le}
 use Rattle.word.specs.Word.{part, le, word_at, Bytes}
 use Rattle.word.specs.Bits.{byte_bit}
 use Rattle.word.proofs.Laws.{get_or-part, bytes-part}
-use Rattle.word.proofs.Turns.{word_one}
+use Rattle.word.proofs.Bytes.{word_one}
 
 none : (j : ℕ) → 0 / 2 ^ j ≡ 0
 none j = omega (arith, shr_le 0 j)

@@ -1,27 +1,12 @@
--- `word::fill` meets its contract. The invariant: the bytes that are left, stored into what there is, give what is to
--- be.
-use Prim.Native.Nat.{◌-◌}
-use mathlib.Core.Path.{◌≡◌, refl, ◌∙◌}
-use native.Mathlib.Nat.{add-zero, sub-zero}
-use native.Mathlib.Omega.{arith}
-use borrow.Author.Rules.{rules}
-use lib.ListN.{length-set, length-replicate}
-use Rattle.word.proofs.Turns.{store_turn, store_end, fill_turn, stored}
+-- `word::fill` meets its contract: each byte of the part that is lent becomes v.
+use Rattle.std.proofs.Common.{◌≡◌, ◌+◌, ◌-◌, length, take, drop, length-take, length-drop, arith}
+use Rattle.std.proofs.lemmas.List.{length-replicate}
+use Rattle.word.proofs.Bytes.{lent_over}
 use Rattle.word.proofs.fill.Goals as goal
-
-pub loop-i-init : goal.loop-i-init
-loop-i-init c = (search rules, refl, rw (add-zero, sub-zero))
-
-pub loop-i-preserved : goal.loop-i-preserved
-loop-i-preserved c =
-    let l = c.loop-i in (
-      search rules,
-      rw length-set l.invariant.1,
-      store_turn _ _ _ _ _
-          ∙ rw (fill_turn _ _ _ c.loop-i-test.true) at l.invariant.2,
-    )
 
 pub returns : goal.returns
 returns c =
-    let e : c.args.k - c.loop-i.i ≡ 0 = omega arith in
-    (rw (e, store_end) at c.loop-i.invariant.2) ∙ stored _ _ _ (rw length-replicate (omega arith))
+    let a = c.args in
+    let e : length (take (a.at + a.k - a.at) (drop a.at a.s.now)) ≡ a.k = simp (length-take, length-drop) (omega arith) in
+    rw (c.fill.ensures.after (λ y h. h), e)
+    (lent_over a.s.now a.at (a.at + a.k - a.at) _ (omega (arith, length-replicate a.k a.v)))

@@ -1,37 +1,7 @@
--- `word::paste` meets its contract. The invariant: the bytes that are left, written over what there is, give what is to
--- be.
-use Prim.Native.Nat.{◌+◌, ◌≤◌}
-use mathlib.Core.Path.{◌≡◌, refl, ap, ◌∙◌}
-use native.Mathlib.Nat.{add-zero}
-use native.Mathlib.Omega.{arith}
-use borrow.Author.Rules.{rules}
-use lib.ListN.{length}
-use Rattle.word.specs.Word.{part}
-use Rattle.word.specs.Write.{over}
-use Rattle.word.proofs.Laws.{length_over, length_part}
-use Rattle.word.proofs.Lent.{lent-rest}
-use Rattle.word.proofs.Turns.{piece_turn}
+-- `word::paste` meets its contract: the part that is lent becomes src.
+use Rattle.std.proofs.Common.{arith}
+use Rattle.word.proofs.Bytes.{lent_over}
 use Rattle.word.proofs.paste.Goals as goal
 
-pub loop-i-init : goal.loop-i-init
-loop-i-init c = (search rules, refl, rw add-zero)
-
-pub loop-i-preserved : goal.loop-i-preserved
-loop-i-preserved c =
-    let l = c.loop-i in
-    let a = c.args in
-    let i = l.i in
-    let src = a.src.now in
-    let e : c.put_piece.new.s ≡ over l.s (a.at + i) (part src i 512) = c.put_piece.ensures
-    ∙ ap (over l.s (a.at + i)) c.piece.ensures in
-    let h : i + 512 ≤ length src = omega arith in (
-      h,
-      rw e (length_over l.s (a.at + i) (part src i 512) (rw (length_part src i 512 h) (omega arith)) ∙ l.invariant.1),
-      rw e (piece_turn l.s a.at i 512 src h (omega arith) ∙ l.invariant.2),
-    )
-
 pub returns : goal.returns
-returns c =
-    let l = c.loop-i in
-    let a = c.args in
-    c.paste_rest.ensures ∙ rw (lent-rest a.src.now l.i) l.invariant.2
+returns c = rw c.copy_from_slice.ensures.after (lent_over _ _ _ _ (omega arith))
