@@ -1,14 +1,12 @@
 -- The rows of document 01's table that stand in front, in the groups that the code tests one after the other, and what
 -- a group answers.
-use Rattle.std.specs.Prelude.{ℕ, Bool, ◌||◌, List, [], ◌∷◌, ◌++◌}
+use Rattle.std.specs.Prelude.{ℕ, Bool, ◌||◌, List, [], ◌∷◌, ◌++◌, Result, Ok, Err}
 use Rattle.plain.specs.Tests.{when}
-use Rattle.kinds.specs.Kinds.{tick}
 use Rattle.kinds.specs.declared.Report.{Report}
 use Rattle.kinds.specs.declared.Report.TheVariants.{BadImage, BadUser, BadTime, ClockNotLater}
-use Rattle.promise.specs.Trailer.{n_of, clock_of}
 use Rattle.promise.specs.Refusals.{Row, row, succeeds, bad_image, bad_user, bad_now, bad_expiry, not_later}
-use Rattle.front.specs.declared.Front.{Front}
-use Rattle.front.specs.declared.Front.TheVariants.{Shut, Open}
+use Rattle.image.specs.Image.{trailer_in}
+use Rattle.image.specs.declared.trailer.Trailer.{Trailer}
 
 -- the image and the client; for an operation that changes the store, also the times
 
@@ -24,6 +22,6 @@ time_rows img expiry time = row (bad_times expiry time) BadTime ∷ row (not_lat
 unfoldable pub changing_rows : List ℕ → (client expiry time : ℕ) → List Row
 changing_rows img client expiry time = reading_rows img client ++ time_rows img expiry time
 
--- the trailer's N and clock where no row applies
-unfoldable pub front_of : Report → List ℕ → Front
-front_of r img = when (succeeds r) (Open (n_of img) (tick (clock_of img))) (Shut r)
+-- what the trailer says where no row applies
+unfoldable pub front_of : Report → List ℕ → Result Trailer Report
+front_of r img = when (succeeds r) (Ok (trailer_in img)) (Err r)

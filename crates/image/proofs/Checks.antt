@@ -3,19 +3,18 @@
 use Rattle.std.proofs.Common.{◌≡◌, ℕ, zero, suc, ◌<◌, true, false, ◌&&◌, eqb, List, get_or, replicate, sym, refl, ap}
 use Rattle.std.proofs.Common.{◌∙◌, arith}
 use mathlib.Core.Bool.{and_assoc}
+use Rattle.std.specs.Prelude.{Some, None}
 use Rattle.plain.specs.Tests.{was_first, was_second, apart}
 use Rattle.run.specs.Run.{all_of, times}
 use Rattle.run.proofs.Laws.{all_same}
-use Rattle.kinds.specs.Kinds.{tick}
-use Rattle.kinds.specs.declared.Tick.{Tick}
 use Rattle.promise.specs.Layout.{size_of}
 use Rattle.promise.specs.Trailer.{n_of, clock_of, trailer_right}
 use Rattle.promise.proofs.TrailerLaws.{right}
 use Rattle.promise.specs.Map.{spare_zero, good}
 use Rattle.promise.specs.Counts.{count_of, owners}
 use Rattle.promise.specs.Sound.{sound_image}
-use Rattle.image.specs.Image.{Known, trailer_answer, same_count, body_sound}
-use Rattle.image.specs.declared.trailer.Trailer.TheVariants.{Bad, Right}
+use Rattle.image.specs.Image.{Known, trailer_in, trailer_answer, same_count, body_sound}
+use Rattle.image.specs.declared.trailer.Trailer.{Trailer}
 
 -- a tally that begins with zeros
 pub zeros : (k u : ℕ) → ◌≡◌ {A = ℕ} (get_or (replicate k 0) u 0) 0
@@ -53,12 +52,12 @@ split img =
     ∙ and_assoc (trailer_right img) (all_of (good img) 0 (n_of img)
     && spare_zero (n_of img) img) (all_of (λ u. eqb (count_of (n_of img) img u) (times u (owners (n_of img) img))) 0 64)
 
--- what a reading that answered Bad, or Right, tells
-pub not_right : (img : List ℕ) → trailer_answer img ≡ Bad → trailer_right img ≡ false
+-- what a reading that answered None, or Some, tells
+pub not_right : (img : List ℕ) → trailer_answer img ≡ None → trailer_right img ≡ false
 unfolding trailer_answer
 not_right img e = (was_second (trailer_right img) (λ q. apart cc) e).0
 
-pub told_bad : (img : List ℕ) → trailer_answer img ≡ Bad → false ≡ sound_image img
+pub told_bad : (img : List ℕ) → trailer_answer img ≡ None → false ≡ sound_image img
 told_bad img e = sym (split img ∙ rw (not_right img e))
 
 -- an image whose trailer is right
@@ -76,20 +75,19 @@ known img n clock h p q =
       in_time = omega (arith, r.clock);
     }
 
-module _ (img : List ℕ) (n : ℕ) (clock : Tick) (e : trailer_answer img ≡ Right n clock) where
+module _ (img : List ℕ) (t : Trailer) (e : trailer_answer img ≡ Some t) where
   pub its_trailer : trailer_right img ≡ true
   unfolding trailer_answer
   its_trailer = (was_first (trailer_right img) (λ q. apart cc) e).0
 
-  its : Right (n_of img) (tick (clock_of img)) ≡ Right n clock
+  pub its : trailer_in img ≡ t
   unfolding trailer_answer
-  its = rw its_trailer at e
+  its = cc (rw its_trailer at e)
 
-  pub told_known : Known img n clock.0
+  pub told_known : Known img t.n t.clock.0
   told_known =
-      let p : n_of img ≡ n = cc its in
-      let t : tick (clock_of img) ≡ clock = cc its in
-      known img n clock.0 its_trailer p (ap (λ (x : Tick). x.0) t)
+      known img t.n t.clock.0 its_trailer (ap (λ (x : Trailer). x.n) its)
+      (ap (λ (x : Trailer). x.clock.0) its)
 
   pub told_body : body_sound img ≡ sound_image img
   told_body = sym (split img ∙ rw its_trailer)

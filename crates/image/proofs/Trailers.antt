@@ -1,6 +1,7 @@
 -- The trailer's rule in the parts that the code tests, and what a reading answers in each case.
 -- Assumes nothing.
 use Rattle.std.proofs.Common.{◌≡◌, ℕ, ◌-◌, ◌<◌, ◌≤◌, true, false, ◌&&◌, eqb, List, length, take, drop, sym, refl, ap}
+use Rattle.std.specs.Prelude.{Some, None}
 use Rattle.std.proofs.Common.{◌∙◌, ⊎_elim, arith, eq-eqb, ne_eqb}
 use Rattle.plain.specs.Tests.{all, all_append, decide}
 use Rattle.word.specs.Word.{word_at}
@@ -9,7 +10,6 @@ use Rattle.kinds.specs.Kinds.{tick}
 use Rattle.promise.specs.Layout.{number_right, size_of}
 use Rattle.promise.specs.Trailer.{trailer_of, n_of, clock_of, right_trailer, trailer_right}
 use Rattle.image.specs.Image.{trailer_answer, distance_tests, rest_tests}
-use Rattle.image.specs.declared.trailer.Trailer.TheVariants.{Bad, Right}
 
 -- ---- the rule in parts
 
@@ -41,21 +41,25 @@ short img h =
     (bad_number (length img) (trailer_of img) (word_at 4 (trailer_of img) 0) refl)
     (decide (number_right (word_at 4 (trailer_of img) 0))))
 
-pub answer_short : (img : List ℕ) → length img < 512 → Bad ≡ trailer_answer img
+pub answer_short : (img : List ℕ) → length img < 512 → trailer_answer img ≡ None
 unfolding trailer_answer
 answer_short img h = rw (short img h)
 
 -- the trailer as it is lent to a call: from 512 bytes before the end up to the end
-module _ (img t : List ℕ) (h : 512 ≤ length img) (e : t
-    ≡ take (length img - (length img - 512)) (drop (length img - 512) img)) where
-  is_trailer : t ≡ trailer_of img
-  is_trailer = e ∙ lent-part img (length img - 512) (length img) 512 (omega arith)
+module _ (img : List ℕ) (at : ℕ) (h : 512 ≤ length img) (e : at ≡ length img - 512) where
+  abbrev lent : List ℕ
+  lent = take (length img - at) (drop at img)
 
-  pub answer_bad : right_trailer (length img) t ≡ false → Bad ≡ trailer_answer img
+  is_trailer : lent ≡ trailer_of img
+  is_trailer = rw e (lent-part img (length img - 512) (length img) 512 (omega arith))
+
+  pub answer_bad : right_trailer (length img) lent ≡ false → trailer_answer img ≡ None
   unfolding trailer_answer trailer_right
   answer_bad f = rw (← is_trailer, f)
 
-  pub answer_right : right_trailer (length img) t ≡ true → (n clock : ℕ) → n ≡ word_at 4 t 0 → clock ≡ word_at 8 t 24
-      → Right n (tick clock) ≡ trailer_answer img
+  pub answer_right : right_trailer (length img) lent ≡ true
+      → trailer_answer img ≡ Some (record { n = word_at 4 lent 0; clock = tick (word_at 8 lent 24) })
   unfolding trailer_answer trailer_right n_of clock_of
-  answer_right f n clock p q = rw (← is_trailer, f, p, q)
+  answer_right f = rw (← is_trailer, f)
+
+pub ruleset trailer_cases = (answer_short, answer_bad, answer_right)

@@ -1,7 +1,7 @@
 -- What a caller knows of an image whose trailer it has read; what that reading answers; and the parts of document 01's
 -- rules that the code tests one after the other.
 use Rattle.std.specs.Prelude.{◌≡◌, ℕ, ◌+◌, ◌/◌, ◌%◌, ◌^◌, ◌<◌, Bool, ◌&&◌, ltb, List, [], ◌∷◌, map, length, ◌==◌}
-use Rattle.std.specs.Prelude.{nat_eq, nat_le, nat_lt, slice_index, slice_set}
+use Rattle.std.specs.Prelude.{nat_eq, nat_le, nat_lt, slice_index, slice_set, Option, Some, None}
 use Rattle.plain.specs.Tests.{when}
 use Rattle.word.specs.Word.{part, le, word_at, all_zero}
 use Rattle.kinds.specs.Kinds.{tick}
@@ -14,7 +14,6 @@ use Rattle.promise.specs.Map.{spare_zero, good}
 use Rattle.promise.specs.Counts.{count_of, owners}
 use Rattle.promise.proofs.TrailerLaws.{Number}
 use Rattle.image.specs.declared.trailer.Trailer.{Trailer}
-use Rattle.image.specs.declared.trailer.Trailer.TheVariants.{Bad, Right}
 
 -- it is laid out for n service blocks
 pub record Laid (img : List ℕ) (n : ℕ) : Type 0 where
@@ -28,9 +27,12 @@ pub record Known (img : List ℕ) (n clock : ℕ) : Type 0 where
   pub its_clock : clock_of img ≡ clock
   pub in_time : clock < 2 ^ 40
 
--- a right trailer's N and clock; Bad where it is not right
-unfoldable pub trailer_answer : List ℕ → Trailer
-trailer_answer img = when (trailer_right img) (Right (n_of img) (tick (clock_of img))) Bad
+-- what its trailer says, and what a reading answers: that, where the trailer is right
+abbrev pub trailer_in : List ℕ → Trailer
+trailer_in img = record { n = n_of img; clock = tick (clock_of img) }
+
+unfoldable pub trailer_answer : List ℕ → Option Trailer
+trailer_answer img = when (trailer_right img) (Some (trailer_in img)) None
 
 -- the tests of the distances, and of what follows them
 abbrev pub distance_tests : (t : List ℕ) (n : ℕ) → List Bool

@@ -153,9 +153,8 @@ fn body_sound(img: &[u8], n: usize, clock: Tick) -> bool
 pub fn check(img: &[u8]) -> bool
     ensures { CheckPromise img.now result }
 {
-    let t = trailer::read_trailer(img);
-    match t {
-        Trailer::Bad => false,
-        Trailer::Right { n, clock } => body_sound(img, n, clock),
+    match trailer::read_trailer(img) {
+        Some(Trailer { n, clock }) => body_sound(img, n, clock),
+        None => false,
     }
 }

@@ -14,11 +14,11 @@ use crate::layout::{
 use kinds::Tick;
 use kinds::limits::{END_OF_TIME, LEAST_BLOCKS, MOST_BLOCKS};
 
-// What an image's trailer says, where it is right.
+// What a right trailer says.
 #[derive(Clone, Copy)]
-pub enum Trailer {
-    Bad,
-    Right { n: usize, clock: Tick },
+pub struct Trailer {
+    pub n: usize,
+    pub clock: Tick,
 }
 
 // N is a multiple of 8 from 8 to 4,096.
@@ -80,23 +80,19 @@ fn right_trailer(t: &[u8], size: usize) -> bool
     both(distances_right(t, n), rest_right(t))
 }
 
-pub fn read_trailer(img: &[u8]) -> Trailer
+#[tactic(auto, using(crate::proofs::Trailers::trailer_cases))]
+pub fn read_trailer(img: &[u8]) -> Option<Trailer>
     ensures { result ≡ trailer_answer img.now }
 {
     let size = img.len();
-    if size < DISK_BLOCK {
-        return Trailer::Bad;
-    }
-    let at = size - DISK_BLOCK;
+    let at = size.checked_sub(DISK_BLOCK)?;
     let t = &img[at..];
-    if right_trailer(t, size) {
-        Trailer::Right {
-            n: word::get32(t, 0) as usize,
-            clock: Tick(word::get64(t, CLOCK_AT)),
-        }
-    } else {
-        Trailer::Bad
+    if !right_trailer(t, size) {
+        return None;
     }
+    let n = word::get32(t, 0) as usize;
+    let clock = Tick(word::get64(t, CLOCK_AT));
+    Some(Trailer { n, clock })
 }
 
 // The clock becomes this time.

@@ -1,18 +1,11 @@
--- `front::changing` meets its contract: the image and the client, then the times.
-use mathlib.Core.Path.{sym, ◌∙◌}
-use Rattle.front.specs.Rows.{changing_rows}
-use Rattle.front.proofs.Fronts.{shut_front, open_front, reading_rising, open_known}
+-- `front::changing` meets its contract: a refusal of the image or the client is passed on.
+use Rattle.std.proofs.Common.{sym, ◌∙◌, arith}
+use Rattle.std.proofs.lemmas.Grind.{common_steps}
+use Rattle.front.proofs.Fronts.{refused_front}
 use Rattle.front.proofs.changing.Goals as goal
 
-pub timely-requires : goal.timely-requires
-timely-requires c = open_known _ _ _ _ (sym c.reading-f.ensures ∙ c.in-Open.is)
-
-pub returns-in-Shut : goal.returns-in-Shut
-unfolding changing_rows
-returns-in-Shut c = shut_front _ _ _ _ (sym c.reading-f.ensures ∙ c.in-Shut.is)
-
-pub returns-in-Open : goal.returns-in-Open
-unfolding changing_rows
-returns-in-Open c =
-    c.timely.ensures ∙ open_front _ _ _ (reading_rising _ _) _ _ (sym c.reading-f.ensures
-    ∙ c.in-Open.is)
+pub returns-in_err-t : goal.returns-in_err-t
+returns-in_err-t c =
+    let e = refused_front c.args.img.now c.args.client.0 c.args.expiry.0 c.args.time.0 c.in_err-t.field-0.0
+    (sym c.reading.ensures ∙ c.in_err-t.was) in
+    grind (arith, common_steps)
