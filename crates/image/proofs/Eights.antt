@@ -5,7 +5,7 @@ use Rattle.std.proofs.Common.{◌≡◌, ℕ, zero, suc, ◌+◌, ◌-◌, ◌*�
 use Rattle.std.proofs.Common.{sym, refl, ap, ◌∙◌, arith}
 use Rattle.word.specs.Word.{part, word_at, all_zero}
 use Rattle.word.proofs.Laws.{part_split}
-use Rattle.word.proofs.Turns.{all_zero_append}
+use Rattle.word.proofs.Bytes.{all_zero_append}
 use Rattle.run.specs.Run.{all_of, times}
 use Rattle.run.proofs.Laws.{all_parts, all-each, all_same, picked_none}
 use Rattle.run.proofs.Turns.{all_end}

@@ -14,7 +14,7 @@ use Rattle.word.specs.Word.{part, word_at, bytes_of, blank, all_zero, Bytes}
 use Rattle.word.specs.Write.{over}
 use Rattle.word.proofs.Laws.{length-bytes_of, length-blank, length_part, part-part, over_append}
 use Rattle.word.proofs.Lent.{lent-part}
-use Rattle.word.proofs.Turns.{word_first, word_one, zero-le}
+use Rattle.word.proofs.Bytes.{word_first, word_one, zero-le}
 use Rattle.ident.specs.Ident.{id_of}
 use Rattle.promise.specs.Layout.{data_at}
 use Rattle.promise.specs.Header.{header_of, is_used, owner_of, id_in, created_of, used_right, good_header, header_bytes}

@@ -8,19 +8,20 @@ ghost use Rattle.image.specs.Image.{Laid};
 
 use crate::layout::{DISK_BLOCK, HEADER, MAP_AND_COUNTS, NUMBER, SERVICE_BLOCK, TAG, TAG_AT};
 use kinds::{BlockNum, User};
+use word::Number;
 
 pub fn count_of(img: &[u8], n: usize, u: User) -> u64
     requires { Laid img.now n × (u.0 < 64) }
     ensures { result ≡ count_of n img.now u.0 }
 {
-    word::get64(img, HEADER * n + DISK_BLOCK + NUMBER * (u.0 as usize))
+    u64::get(img, HEADER * n + DISK_BLOCK + NUMBER * (u.0 as usize))
 }
 
 pub fn set_count(img: &mut [u8], n: usize, u: User, count: u64)
     requires { Laid img.old n × (u.0 < 64) }
     ensures { img.new ≡ puts img.old (count_set n u.0 count ∷ []) }
 {
-    word::put64(
+    u64::put(
         img,
         HEADER * n + DISK_BLOCK + NUMBER * (u.0 as usize),
         count,

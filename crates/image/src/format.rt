@@ -12,6 +12,7 @@ ghost use Rattle.image.specs.Image.{Laid};
 use crate::layout::{ALL_BUT_BLOCKS, EACH_BLOCK, HEADER, MAP_AND_COUNTS, MARK, MARK_AT};
 use crate::trailer;
 use kinds::Report;
+use word::Number;
 
 // The trailer's first five numbers: N and the distances.
 fn write_numbers(img: &mut [u8], at: usize, n: usize)
@@ -19,11 +20,11 @@ fn write_numbers(img: &mut [u8], at: usize, n: usize)
     ensures { img.new ≡ over img.old at (numbers n) }
 {
     let m = n as u32;
-    word::put32(img, at, m);
-    word::put32(img, at + 4, m / 8 + m + 2);
-    word::put32(img, at + 8, m + 2);
-    word::put32(img, at + 12, m + 1);
-    word::put32(img, at + 16, m);
+    u32::put(img, at, m);
+    u32::put(img, at + 4, m / 8 + m + 2);
+    u32::put(img, at + 8, m + 2);
+    u32::put(img, at + 12, m + 1);
+    u32::put(img, at + 16, m);
 }
 
 // The trailer of a fresh image, over zeros: its other bytes and its clock are zero already.
@@ -33,7 +34,7 @@ fn write_trailer(img: &mut [u8], n: usize)
 {
     let at = EACH_BLOCK * n + MAP_AND_COUNTS;
     write_numbers(img, at, n);
-    word::put32(img, at + MARK_AT, MARK);
+    u32::put(img, at + MARK_AT, MARK);
 }
 
 // Zeroes the image, sets its N map bits and writes its trailer; refuses an N or a length that is not right, and then

@@ -16,40 +16,41 @@ use crate::layout::{CREATED_AT, EXPIRES_AT, HEADER, ID_AT, OWNER_AT, TAG_AT};
 use crate::{both, map};
 use kinds::limits::END_OF_TIME;
 use kinds::{BlockNum, Id, Tick, User};
+use word::Number;
 
 pub fn is_used(h: &[u8]) -> bool
     requires { length h.now ≡ 64 }
     ensures { result ≡ is_used h.now }
 {
-    word::get8(h, 0) == 1
+    u8::get(h, 0) == 1
 }
 
 pub fn owner(h: &[u8]) -> User
     requires { length h.now ≡ 64 }
     ensures { result ≡ user (owner_of h.now) }
 {
-    User(word::get8(h, OWNER_AT) as u32)
+    User(u8::get(h, OWNER_AT) as u32)
 }
 
 pub fn id(h: &[u8]) -> Id
     requires { length h.now ≡ 64 }
     ensures { result ≡ ident (id_in h.now) }
 {
-    Id(word::get64(h, ID_AT))
+    Id(u64::get(h, ID_AT))
 }
 
 pub fn created(h: &[u8]) -> Tick
     requires { length h.now ≡ 64 }
     ensures { result ≡ tick (created_of h.now) }
 {
-    Tick(word::get64(h, CREATED_AT))
+    Tick(u64::get(h, CREATED_AT))
 }
 
 pub fn expires(h: &[u8]) -> Tick
     requires { length h.now ≡ 64 }
     ensures { result ≡ tick (expires_of h.now) }
 {
-    Tick(word::get64(h, EXPIRES_AT))
+    Tick(u64::get(h, EXPIRES_AT))
 }
 
 // Whether a block is used and the client's.
@@ -72,17 +73,17 @@ fn shape_right(h: &[u8]) -> bool
     requires { length h.now ≡ 64 }
     ensures { result ≡ all (shape_tests h.now) }
 {
-    let x = word::get64(h, 0);
+    let x = u64::get(h, 0);
     let y = std::num::wrapping_sub_u64(x, 1);
-    both(y - 256 * (y / 256 % 64) == 0, word::is_zero8(h, 48, 2))
+    both(y - 256 * (y / 256 % 64) == 0, word::is_zero(h, 48, 16))
 }
 
 fn times_right(h: &[u8], clock: Tick) -> bool
     requires { length h.now ≡ 64 }
     ensures { result ≡ all (time_tests clock.0 h.now) }
 {
-    let created = word::get64(h, CREATED_AT);
-    let expires = word::get64(h, EXPIRES_AT);
+    let created = u64::get(h, CREATED_AT);
+    let expires = u64::get(h, EXPIRES_AT);
     both(
         1 <= created,
         both(
@@ -103,7 +104,7 @@ pub(crate) fn used_right(h: &[u8], clock: Tick, b: BlockNum) -> bool
         return false;
     }
     let made = ident::make(created(h), b);
-    word::get64(h, ID_AT) == made.0
+    u64::get(h, ID_AT) == made.0
 }
 
 pub fn good_header(h: &[u8], clock: Tick, b: BlockNum, free: bool) -> bool
@@ -143,12 +144,12 @@ pub fn put_header(
         (header_bytes owner.0 id.0 created.0 expires.0 tag.now) }
 {
     let at = HEADER * (b.0 as usize);
-    word::put8(img, at, 1);
-    word::put8(img, at + OWNER_AT, owner.0 as u8);
+    u8::put(img, at, 1);
+    u8::put(img, at + OWNER_AT, owner.0 as u8);
     word::clear(img, at + 2, 6);
-    word::put64(img, at + ID_AT, id.0);
-    word::put64(img, at + CREATED_AT, created.0);
-    word::put64(img, at + EXPIRES_AT, expires.0);
+    u64::put(img, at + ID_AT, id.0);
+    u64::put(img, at + CREATED_AT, created.0);
+    u64::put(img, at + EXPIRES_AT, expires.0);
     word::paste(img, at + TAG_AT, tag);
     word::clear(img, at + 48, 16)
 }
@@ -165,5 +166,5 @@ pub fn put_expires(img: &mut [u8], b: BlockNum, expires: Tick)
     requires { header_at b.0 + 64 ≤ length img.old }
     ensures { img.new ≡ over img.old (header_at b.0 + 24) (bytes_of 8 expires.0) }
 {
-    word::put64(img, HEADER * (b.0 as usize) + EXPIRES_AT, expires.0)
+    u64::put(img, HEADER * (b.0 as usize) + EXPIRES_AT, expires.0)
 }

@@ -8,13 +8,14 @@ ghost use Rattle.image.specs.Image.{Laid, bit_of};
 
 use crate::layout::{DISK_BLOCK, HEADER};
 use kinds::BlockNum;
+use word::Number;
 
 pub fn is_free(img: &[u8], n: usize, b: BlockNum) -> bool
     requires { Laid img.now n × (b.0 < n) }
     ensures { result ≡ free n img.now b.0 }
 {
     let i = b.0 as usize;
-    let m = word::get8(img, HEADER * n + i / 8);
+    let m = u8::get(img, HEADER * n + i / 8);
     (m >> (i % 8)) % 2 == 1
 }
 
@@ -41,8 +42,8 @@ pub fn take_bit(img: &mut [u8], n: usize, b: BlockNum)
 {
     let i = b.0 as usize;
     let at = HEADER * n + i / 8;
-    let m = word::get8(img, at);
-    word::put8(img, at, m - weight(i % 8))
+    let m = u8::get(img, at);
+    u8::put(img, at, m - weight(i % 8))
 }
 
 // Makes a used block's bit 1. A bit that is 1 already is not asked about: the sum is cut to a byte, as the definition
@@ -53,9 +54,9 @@ pub fn free_bit(img: &mut [u8], n: usize, b: BlockNum)
 {
     let i = b.0 as usize;
     let at = HEADER * n + i / 8;
-    let m = word::get8(img, at) as u32;
+    let m = u8::get(img, at) as u32;
     let w = weight(i % 8) as u32;
-    word::put8(img, at, ((m + w) % 256) as u8)
+    u8::put(img, at, ((m + w) % 256) as u8)
 }
 
 // The lowest bit of a byte that is 1, 8 where none is; and of a number of 8 bytes, 64 where none is.
@@ -78,7 +79,7 @@ fn free_from(img: &[u8], n: usize, from: usize) -> BlockNum
 {
     let mut i = from;
     while i < n / 8 {
-        let m = word::get8(img, HEADER * n + i);
+        let m = u8::get(img, HEADER * n + i);
         if 0 < m {
             return BlockNum((8 * i + lowest_bit(m)) as u32);
         }
@@ -94,7 +95,7 @@ pub fn lowest_free(img: &[u8], n: usize) -> BlockNum
 {
     let mut i: usize = 0;
     while i + 8 <= n / 8 {
-        let m = word::get64(img, HEADER * n + i);
+        let m = u64::get(img, HEADER * n + i);
         if 0 < m {
             return BlockNum((8 * i + lowest_bit64(m)) as u32);
         }

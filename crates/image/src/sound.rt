@@ -15,6 +15,7 @@ use crate::trailer::Trailer;
 use crate::{counts, header, map, trailer};
 use kinds::limits::CLIENTS;
 use kinds::{BlockNum, Tick, User};
+use word::Number;
 
 // One block more for the owner of a used header: in its first 8 bytes, as one number, all that is above used.
 fn tally_owner(h: &[u8], tally: &mut [u32])
@@ -22,7 +23,7 @@ fn tally_owner(h: &[u8], tally: &mut [u32])
         × ((u : ℕ) → slice_index tally.old u ≤ 8192) }
     ensures { tally.new ≡ tallied h.now tally.old }
 {
-    let x = word::get64(h, 0);
+    let x = u64::get(h, 0);
     let u = (x / 256) as usize;
     let t = tally[u];
     tally[u] = t + 1;
@@ -38,7 +39,7 @@ fn visit(img: &[u8], n: usize, clock: Tick, b: BlockNum, bit: bool, tally: &mut 
 {
     let at = HEADER * (b.0 as usize);
     if bit {
-        return word::is_zero8(img, at, 8);
+        return word::is_zero(img, at, HEADER);
     }
     let end = at + HEADER;
     if !header::used_right(&img[at..end], clock, b) {
@@ -81,9 +82,9 @@ fn visit_eight(img: &[u8], n: usize, clock: Tick, i: usize, tally: &mut [u32]) -
         × ((u : ℕ) → slice_index tally.new u
         ≡ slice_index tally.old u + times u (owners_from img.now (8 * i) 8)) }
 {
-    let m = word::get8(img, HEADER * n + i);
+    let m = u8::get(img, HEADER * n + i);
     if m == 255 {
-        return word::is_zero8(img, HEADER * (8 * i), 64);
+        return word::is_zero(img, HEADER * (8 * i), 8 * HEADER);
     }
     visit_each(img, n, clock, i, m, tally)
 }

@@ -13,6 +13,7 @@ use crate::layout::{
 };
 use kinds::Tick;
 use kinds::limits::{END_OF_TIME, LEAST_BLOCKS, MOST_BLOCKS};
+use word::Number;
 
 // What a right trailer says.
 #[derive(Clone, Copy)]
@@ -33,7 +34,7 @@ fn is32(t: &[u8], at: usize, v: usize) -> bool
     requires { at + 4 ≤ length t.now }
     ensures { result ≡ (word_at 4 t.now at == v) }
 {
-    word::get32(t, at) as usize == v
+    u32::get(t, at) as usize == v
 }
 
 fn distances_right(t: &[u8], n: usize) -> bool
@@ -56,7 +57,7 @@ fn rest_right(t: &[u8]) -> bool
     both(
         word::is_zero(t, 20, 4),
         both(
-            word::get64(t, CLOCK_AT) < END_OF_TIME,
+            u64::get(t, CLOCK_AT) < END_OF_TIME,
             both(
                 word::is_zero(t, 32, 476),
                 both(is32(t, MARK_AT, MARK as usize), true),
@@ -70,7 +71,7 @@ fn right_trailer(t: &[u8], size: usize) -> bool
     requires { length t.now ≡ 512 }
     ensures { result ≡ right_trailer size t.now }
 {
-    let n = word::get32(t, 0) as usize;
+    let n = u32::get(t, 0) as usize;
     if !number_right(n) {
         return false;
     }
@@ -90,8 +91,8 @@ pub fn read_trailer(img: &[u8]) -> Option<Trailer>
     if !right_trailer(t, size) {
         return None;
     }
-    let n = word::get32(t, 0) as usize;
-    let clock = Tick(word::get64(t, CLOCK_AT));
+    let n = u32::get(t, 0) as usize;
+    let clock = Tick(u64::get(t, CLOCK_AT));
     Some(Trailer { n, clock })
 }
 
@@ -100,5 +101,5 @@ pub fn set_clock(img: &mut [u8], n: usize, time: Tick)
     requires { Laid img.old n }
     ensures { img.new ≡ puts img.old (clock_set n time.0 ∷ []) }
 {
-    word::put64(img, EACH_BLOCK * n + MAP_AND_COUNTS + CLOCK_AT, time.0)
+    u64::put(img, EACH_BLOCK * n + MAP_AND_COUNTS + CLOCK_AT, time.0)
 }

@@ -4,4 +4,4 @@ use Rattle.promise.proofs.CountLaws.{count_at_lem}
 use Rattle.image.proofs.counts.count_of.Goals as goal
 
 pub returns : goal.returns
-returns c = c.get64.ensures ∙ count_at_lem _ _ _ c.requires.1
+returns c = c.get.ensures ∙ count_at_lem _ _ _ c.requires.1

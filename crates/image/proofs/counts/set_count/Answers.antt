@@ -4,4 +4,4 @@ use Rattle.image.proofs.counts.set_count.Goals as goal
 
 pub returns : goal.returns
 unfolding puts
-returns c = c.put64.ensures
+returns c = c.put.ensures

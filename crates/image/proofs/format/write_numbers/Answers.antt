@@ -5,5 +5,5 @@ use Rattle.image.proofs.format.write_numbers.Goals as goal
 
 pub returns : goal.returns
 returns c =
-    rw (c.put32-5.ensures, c.put32-4.ensures, c.put32-3.ensures, c.put32-2.ensures, c.put32.ensures)
+    rw (c.put-5.ensures, c.put-4.ensures, c.put-3.ensures, c.put-2.ensures, c.put.ensures)
     (five _ _ _ _ _ _ _ (omega arith))

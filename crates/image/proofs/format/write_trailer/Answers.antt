@@ -4,4 +4,4 @@ use Rattle.image.proofs.format.write_trailer.Goals as goal
 
 pub returns : goal.returns
 returns c =
-    rw (c.put32.ensures, c.write_numbers.ensures) (trailer_made _ _ c.requires.0.size c.requires.1)
+    rw (c.put.ensures, c.write_numbers.ensures) (trailer_made _ _ c.requires.0.size c.requires.1)

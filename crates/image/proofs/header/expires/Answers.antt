@@ -4,4 +4,4 @@ use Rattle.kinds.specs.Kinds.{tick}
 use Rattle.image.proofs.header.expires.Goals as goal
 
 pub returns : goal.returns
-returns c = ap tick c.get64.ensures
+returns c = ap tick c.get.ensures

@@ -4,4 +4,4 @@ use Rattle.kinds.specs.Kinds.{ident}
 use Rattle.image.proofs.header.id.Goals as goal
 
 pub returns : goal.returns
-returns c = ap ident c.get64.ensures
+returns c = ap ident c.get.ensures

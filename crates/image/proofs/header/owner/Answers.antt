@@ -4,4 +4,4 @@ use Rattle.kinds.specs.Kinds.{user}
 use Rattle.image.proofs.header.owner.Goals as goal
 
 pub returns : goal.returns
-returns c = ap user c.get8.ensures
+returns c = ap user c.get.ensures

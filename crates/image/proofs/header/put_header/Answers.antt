@@ -9,11 +9,11 @@ returns c =
     rw (
       c.clear-2.ensures,
       c.paste.ensures,
-      c.put64-3.ensures,
-      c.put64-2.ensures,
-      c.put64.ensures,
+      c.put-5.ensures,
+      c.put-4.ensures,
+      c.put-3.ensures,
       c.clear.ensures,
-      c.put8-2.ensures,
-      c.put8.ensures,
+      c.put-2.ensures,
+      c.put.ensures,
     )
     (header_written _ _ _ _ _ _ _ (omega (arith, p.0)) p.2)

@@ -7,7 +7,7 @@ use Rattle.image.proofs.header.shape_right.Goals as goal
 pub returns : goal.returns
 returns c =
     c.both.ensures
-    ∙ rw c.is_zero8.ensures
-    (shape_word c.args.h.now c.get64-x.result c.wrapping_sub_u64-y.result
-    (λ x. omega (arith, c.shared_slice_known-1.given x)) c.requires c.get64-x.ensures
+    ∙ rw c.is_zero.ensures
+    (shape_word c.args.h.now c.get-x.result c.wrapping_sub_u64-y.result
+    (λ x. omega (arith, c.shared_slice_known-1.given x)) c.requires c.get-x.ensures
     (omega arith) c.wrapping_sub_u64-y.ensures.value)

@@ -22,5 +22,5 @@ pub returns : goal.returns
 returns c =
     by_id _ _ _ (sym c.shape_right.ensures
     ∙ c.if-not-shape_right.false) (sym c.times_right.ensures ∙ c.if-not-times_right.false)
-    _ _ _ c.get64.ensures (ap (λ (t : Tick). t.0) c.created.ensures)
+    _ _ _ c.get.ensures (ap (λ (t : Tick). t.0) c.created.ensures)
     (ap (λ (i : Id). i.0) c.make-made.ensures)

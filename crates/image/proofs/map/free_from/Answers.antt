@@ -16,8 +16,8 @@ returns-then-m-gt0 c =
     let a = c.args in
     ap block_num
     (rw c.lowest_bit.ensures
-    (lowest-here a.n a.img.now l.i 1 c.get8-m.result
-    (one_bits a.n a.img.now l.i c.get8-m.result c.get8-m.ensures) (omega arith) (omega arith)
+    (lowest-here a.n a.img.now l.i 1 c.get-m.result
+    (one_bits a.n a.img.now l.i c.get-m.result c.get-m.ensures) (omega arith) (omega arith)
     (omega arith) ∙ l.invariant.1))
 
 pub loop-i-preserved : goal.loop-i-preserved
@@ -25,8 +25,8 @@ loop-i-preserved c =
     let l = c.loop-i in
     let a = c.args in (
       search rules,
-      lowest_turn a.n a.img.now l.i 1 c.get8-m.result
-          (one_bits a.n a.img.now l.i c.get8-m.result c.get8-m.ensures) (omega arith) c.if-m-gt0.false
+      lowest_turn a.n a.img.now l.i 1 c.get-m.result
+          (one_bits a.n a.img.now l.i c.get-m.result c.get-m.ensures) (omega arith) c.if-m-gt0.false
           ∙ l.invariant.1,
     )
 
@@ -37,7 +37,7 @@ returns c =
     ∙ l.invariant.1)
 
 pub overflow_add-result : goal.overflow_add-result
-overflow_add-result c = omega (arith, first-le (bit_of c.get8-m.result) 0 8)
+overflow_add-result c = omega (arith, first-le (bit_of c.get-m.result) 0 8)
 
 pub overflow_cast-result : goal.overflow_cast-result
-overflow_cast-result c = omega (arith, first-le (bit_of c.get8-m.result) 0 8)
+overflow_cast-result c = omega (arith, first-le (bit_of c.get-m.result) 0 8)

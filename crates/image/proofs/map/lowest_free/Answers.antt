@@ -17,9 +17,9 @@ returns-then-m-gt0 c =
     let a = c.args in
     ap block_num
     (rw c.lowest_bit64.ensures
-    (lowest-here a.n a.img.now l.i 8 c.get64-m.result
-    (eight_bits a.n a.img.now l.i c.get64-m.result (λ x. omega (arith, c.shared_slice_known-1.given x))
-    (omega arith) c.get64-m.ensures) (omega arith) (omega arith) (omega arith)
+    (lowest-here a.n a.img.now l.i 8 c.get-m.result
+    (eight_bits a.n a.img.now l.i c.get-m.result (λ x. omega (arith, c.shared_slice_known-1.given x))
+    (omega arith) c.get-m.ensures) (omega arith) (omega arith) (omega arith)
     ∙ l.invariant.1))
 
 pub loop-i-preserved : goal.loop-i-preserved
@@ -27,9 +27,9 @@ loop-i-preserved c =
     let l = c.loop-i in
     let a = c.args in (
       search rules,
-      lowest_turn a.n a.img.now l.i 8 c.get64-m.result
-          (eight_bits a.n a.img.now l.i c.get64-m.result
-          (λ x. omega (arith, c.shared_slice_known-1.given x)) (omega arith) c.get64-m.ensures) (omega arith)
+      lowest_turn a.n a.img.now l.i 8 c.get-m.result
+          (eight_bits a.n a.img.now l.i c.get-m.result
+          (λ x. omega (arith, c.shared_slice_known-1.given x)) (omega arith) c.get-m.ensures) (omega arith)
           c.if-m-gt0.false
           ∙ l.invariant.1,
     )
@@ -38,7 +38,7 @@ pub returns : goal.returns
 returns c = c.free_from.ensures ∙ ap block_num c.loop-i.invariant.1
 
 pub overflow_add-result : goal.overflow_add-result
-overflow_add-result c = omega (arith, first-le (bit_of c.get64-m.result) 0 64)
+overflow_add-result c = omega (arith, first-le (bit_of c.get-m.result) 0 64)
 
 pub overflow_cast-result : goal.overflow_cast-result
-overflow_cast-result c = omega (arith, first-le (bit_of c.get64-m.result) 0 64)
+overflow_cast-result c = omega (arith, first-le (bit_of c.get-m.result) 0 64)

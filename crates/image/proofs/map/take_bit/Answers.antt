@@ -7,7 +7,7 @@ use Rattle.image.proofs.map.take_bit.Goals as goal
 
 pub overflow_sub-m : goal.overflow_sub-m
 unfolding free
-overflow_sub-m c = rw (c.weight.ensures, c.get8-m.ensures)
+overflow_sub-m c = rw (c.weight.ensures, c.get-m.ensures)
     (bit_le _ _ (eqb-true _ _ c.requires.2))
 
 pub returns : goal.returns

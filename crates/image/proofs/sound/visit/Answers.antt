@@ -11,7 +11,7 @@ pub returns-then-bit : goal.returns-then-bit
 returns-then-bit c =
     let img = c.args.img.now in
     let b = c.args.b.0 in
-    let z = c.is_zero8.ensures ∙ zero-at img b in
+    let z = c.is_zero.ensures ∙ zero-at img b in
     record {
       answer = z ∙ good_is_zero img _ _ b c.requires.0 (sym c.requires.2 ∙ c.if-bit.true);
       tally = free_tally _ _ _ z;

@@ -8,14 +8,14 @@ pub returns-then-m : goal.returns-then-m
 returns-then-m c =
     let a = c.args in
     let img = a.img.now in record {
-      answer = c.is_zero8.ensures ∙ eight_free img a.n a.clock.0 a.i c.get8-m.result c.requires.0 c.requires.1
-          c.get8-m.ensures c.if-m.true;
+      answer = c.is_zero.ensures ∙ eight_free img a.n a.clock.0 a.i c.get-m.result c.requires.0 c.requires.1
+          c.get-m.ensures c.if-m.true;
       tally = λ e. (
         c.requires.2,
         λ u. omega (
           arith,
-          eight_none img a.n a.clock.0 a.i c.get8-m.result c.requires.0 c.requires.1
-              c.get8-m.ensures c.if-m.true (sym c.is_zero8.ensures ∙ e) u,
+          eight_none img a.n a.clock.0 a.i c.get-m.result c.requires.0 c.requires.1
+              c.get-m.ensures c.if-m.true (sym c.is_zero.ensures ∙ e) u,
         ),
       );
     }
