@@ -4,7 +4,8 @@ use Prim.Native.Nat.{ℕ, ◌^◌, ◌≤◌, ◌<◌}
 use mathlib.Core.Path.{◌≡◌, refl, sym, ◌∙◌, ap}
 use mathlib.Core.Bool.{true, false, or-false}
 use mathlib.Core.List.{List, [], ◌++◌, append-nil}
-use Rattle.std.specs.Prelude.{Some, None, Ok, Err}
+use Rattle.std.specs.Prelude.{Some, None, Result, Ok, Err}
+use Rattle.std.specs.Result.{IsErrAnd}
 use native.Mathlib.Omega.{arith}
 use borrow.Author.Tests.{lt-ltb, le-ltb, le-leb, lt-leb, not-false}
 use lib.IntN.{ℤ}
@@ -21,48 +22,56 @@ use Rattle.promise.proofs.RowLaws.{stopped, clear, passed, now_fits, expiry_fits
 use Rattle.image.specs.Image.{Known, trailer_in, trailer_answer}
 use Rattle.image.specs.declared.trailer.Trailer.{Trailer}
 use Rattle.image.proofs.Checks.{not_right, its_trailer, its, known}
-use Rattle.front.specs.Rows.{bad_times, reading_rows, time_rows, changing_rows, front_of}
+use Rattle.front.specs.Rows.{bad_times, reading_rows, time_rows, changing_rows, front_of, answered}
 
--- ---- what the answer of a group tells of its report
+-- ---- what an answer tells of its report
 
-pub told_err : (r : Report) (img : List ℕ) (s : Report) → front_of r img ≡ Err s → (succeeds r ≡ false) × (r ≡ s)
-unfolding front_of
-told_err r img s e = let w = was_second (succeeds r) (λ q. apart cc) e in (w.0, cc w.1)
+pub told_err : {A : Type 0} (r : Report) (a : A) (s : Report) → answered r a ≡ Err s → (succeeds r ≡ false) × (r ≡ s)
+unfolding answered
+told_err r a s e = let w = was_second (succeeds r) (λ q. apart cc) e in (w.0, cc w.1)
 
-pub told_ok : (r : Report) (img : List ℕ) (t : Trailer) → front_of r img ≡ Ok t
-    → (succeeds r ≡ true) × (n_of img ≡ t.n) × (clock_of img ≡ t.clock.0)
-unfolding front_of
-told_ok r img t e =
-    let w = was_first (succeeds r) (λ q. apart cc) e in
-    let p : trailer_in img ≡ t = cc w.1 in
-    (w.0, ap (λ (x : Trailer). x.n) p, ap (λ (x : Trailer). x.clock.0) p)
+pub told_ok : {A : Type 0} (r : Report) (a b : A) → answered r a ≡ Ok b → (succeeds r ≡ true) × (a ≡ b)
+unfolding answered
+told_ok r a b e = let w = was_first (succeeds r) (λ q. apart cc) e in (w.0, cc w.1)
+
+-- where `?` passes a report on
+pub exit : {A E : Type 0} (x : Result A E) {z : Result A E} {r : E} → IsErrAnd x (λ y. y ≡ r) → z ≡ Err r → x ≡ z
+exit (Ok a) h e = absurd h
+exit (Err y) h e = ap Err h ∙ sym e
 
 -- ---- the answer of two groups
 
-module _ (xs ys : List Row) (img : List ℕ) where
-  pub err_front : (r : Report) → front_of (lowest xs) img ≡ Err r → front_of (lowest (xs ++ ys)) img ≡ Err r
-  unfolding front_of
-  err_front r e = let w = told_err (lowest xs) img r e in rw (stopped xs ys w.0, w.0, w.1)
+module _ (xs ys : List Row) {A B : Type 0} (a : A) (b : B) where
+  pub err_more : (r : Report) → answered (lowest xs) a ≡ Err r → answered (lowest (xs ++ ys)) b ≡ Err r
+  unfolding answered
+  err_more r e = let w = told_err (lowest xs) a r e in rw (stopped xs ys w.0, w.0, w.1)
 
-  pub ok_front : rising 1 xs ≡ true → (t : Trailer) → front_of (lowest xs) img ≡ Ok t
-      → front_of (lowest ys) img ≡ front_of (lowest (xs ++ ys)) img
-  ok_front u t e = rw (passed 1 xs ys (omega arith) u (told_ok (lowest xs) img t e).0)
+  pub ok_more : rising 1 xs ≡ true → (x : A) → answered (lowest xs) a ≡ Ok x
+      → answered (lowest ys) b ≡ answered (lowest (xs ++ ys)) b
+  ok_more u x e = rw (passed 1 xs ys (omega arith) u (told_ok (lowest xs) a x e).0)
+
+  pub ok_err : rising 1 xs ≡ true → (x : A) → answered (lowest xs) a ≡ Ok x → {C : Type 0} (c : C) (r : Report)
+      → answered (lowest ys) c ≡ Err r → answered (lowest (xs ++ ys)) b ≡ Err r
+  unfolding answered
+  ok_err u x e c r f =
+      let w = told_err (lowest ys) c r f in
+      rw (passed 1 xs ys (omega arith) u (told_ok (lowest xs) a x e).0, w.0, w.1)
 
 -- ---- the image and the client
 
 module _ (img : List ℕ) (client : ℕ) where
   pub bad_image_lem : trailer_answer img ≡ None → front_of (lowest (reading_rows img client)) img ≡ Err BadImage
-  unfolding front_of lowest reading_rows
+  unfolding answered lowest reading_rows
   bad_image_lem e = rw (not_right img e)
 
   pub bad_user_lem : (t : Trailer) → trailer_answer img ≡ Some t → 63 < client
       → front_of (lowest (reading_rows img client)) img ≡ Err BadUser
-  unfolding front_of lowest reading_rows
+  unfolding answered lowest reading_rows
   bad_user_lem t e h = rw (its_trailer img t e, lt-ltb 63 client h)
 
   pub admitted : (t : Trailer) → trailer_answer img ≡ Some t → client ≤ 63
       → front_of (lowest (reading_rows img client)) img ≡ Ok t
-  unfolding front_of lowest reading_rows
+  unfolding answered lowest reading_rows
   admitted t e h = rw (its_trailer img t e, le-ltb 63 client h, its img t e)
 
 pub reading_rising : (img : List ℕ) (client : ℕ) → rising 1 (reading_rows img client) ≡ true
@@ -89,14 +98,14 @@ its_own img n clock k = record
 pub reading_known : (img : List ℕ) (client : ℕ) (t : Trailer)
     → front_of (lowest (reading_rows img client)) img ≡ Ok t → Known img t.n t.clock.0
 reading_known img client t e =
-    let w = told_ok (lowest (reading_rows img client)) img t e in
+    let w = told_ok (lowest (reading_rows img client)) (trailer_in img) t e in
     let a = is_admitted img client [] (rw append-nil w.0) in
-    known img t.n t.clock.0 a.0.trailer w.1 w.2
+    known img t.n t.clock.0 a.0.trailer (ap (λ (x : Trailer). x.n) w.1) (ap (λ (x : Trailer). x.clock.0) w.1)
 
 pub reading_client : (img : List ℕ) (client : ℕ) (t : Trailer)
     → front_of (lowest (reading_rows img client)) img ≡ Ok t → client < 64
 reading_client img client t e =
-    (is_admitted img client [] (rw append-nil (told_ok (lowest (reading_rows img client)) img t e).0)).0.user
+    (is_admitted img client [] (rw append-nil (told_ok (lowest (reading_rows img client)) (trailer_in img) t e).0)).0.user
 
 -- ---- the times
 
@@ -104,32 +113,33 @@ pub refused_front : (img : List ℕ) (client expiry time : ℕ) (r : Report)
     → front_of (lowest (reading_rows img client)) img ≡ Err r
     → front_of (lowest (changing_rows img client expiry time)) img ≡ Err r
 unfolding changing_rows
-refused_front img client expiry time r e = err_front (reading_rows img client) (time_rows img expiry time) img r e
+refused_front img client expiry time r e =
+    err_more (reading_rows img client) (time_rows img expiry time) (trailer_in img) (trailer_in img) r e
 
 module _ (img : List ℕ) (client expiry time : ℕ) (t : Trailer) (o : front_of (lowest (reading_rows img client)) img
     ≡ Ok t) where
   told : trailer_in img ≡ t
-  unfolding front_of
-  told = cc (was_first (succeeds (lowest (reading_rows img client))) (λ q. apart cc) o).1
+  told = (told_ok (lowest (reading_rows img client)) (trailer_in img) t o).1
 
   to_times : front_of (lowest (changing_rows img client expiry time)) img
       ≡ front_of (lowest (time_rows img expiry time)) img
   unfolding changing_rows
-  to_times = sym (ok_front (reading_rows img client) (time_rows img expiry time) img (reading_rising img client) t o)
+  to_times = sym (ok_more (reading_rows img client) (time_rows img expiry time) (trailer_in img) (trailer_in img)
+      (reading_rising img client) t o)
 
   pub bad_time : bad_times expiry time ≡ true
       → front_of (lowest (changing_rows img client expiry time)) img ≡ Err BadTime
-  unfolding front_of lowest time_rows
+  unfolding answered lowest time_rows
   bad_time e = to_times ∙ rw e
 
   pub not-later : bad_times expiry time ≡ false → time ≤ t.clock.0
       → front_of (lowest (changing_rows img client expiry time)) img ≡ Err ClockNotLater
-  unfolding front_of lowest time_rows
+  unfolding answered lowest time_rows
   not-later e h = to_times ∙ rw (e, ap (λ (x : Trailer). x.clock.0) told, le-leb time t.clock.0 h)
 
   pub in_time : bad_times expiry time ≡ false → t.clock.0 < time
       → front_of (lowest (changing_rows img client expiry time)) img ≡ Ok t
-  unfolding front_of lowest time_rows
+  unfolding answered lowest time_rows
   in_time e h =
       let l : clock_of img < time = omega (arith, ap (λ (x : Trailer). x.clock.0) told) in
       to_times ∙ rw (e, lt-leb time (clock_of img) l) (ap Ok told)
@@ -174,9 +184,16 @@ pub changing_known : (img : List ℕ) (client expiry time : ℕ) (t : Trailer)
     → Known img t.n t.clock.0
 unfolding changing_rows
 changing_known img client expiry time t e =
-    let w = told_ok (lowest (changing_rows img client expiry time)) img t e in
+    let w = told_ok (lowest (changing_rows img client expiry time)) (trailer_in img) t e in
     let a = is_admitted img client (time_rows img expiry time) w.0 in
-    known img t.n t.clock.0 a.0.trailer w.1 w.2
+    known img t.n t.clock.0 a.0.trailer (ap (λ (x : Trailer). x.n) w.1) (ap (λ (x : Trailer). x.clock.0) w.1)
+
+pub changing_client : (img : List ℕ) (client expiry time : ℕ) (t : Trailer)
+    → front_of (lowest (changing_rows img client expiry time)) img ≡ Ok t → client < 64
+unfolding changing_rows
+changing_client img client expiry time t e =
+    (is_admitted img client (time_rows img expiry time)
+    (told_ok (lowest (changing_rows img client expiry time)) (trailer_in img) t e).0).0.user
 
 -- ---- the receipt of a success
 

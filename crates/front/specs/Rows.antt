@@ -22,6 +22,10 @@ time_rows img expiry time = row (bad_times expiry time) BadTime ∷ row (not_lat
 unfoldable pub changing_rows : List ℕ → (client expiry time : ℕ) → List Row
 changing_rows img client expiry time = reading_rows img client ++ time_rows img expiry time
 
--- what the trailer says where no row applies
-unfoldable pub front_of : Report → List ℕ → Result Trailer Report
-front_of r img = when (succeeds r) (Ok (trailer_in img)) (Err r)
+-- what tests answer: a value where no row applies, else the report of the lowest that does
+unfoldable pub answered : {A : Type 0} → Report → A → Result A Report
+answered r a = when (succeeds r) (Ok a) (Err r)
+
+-- the tests in front: what the trailer says
+abbrev pub front_of : Report → List ℕ → Result Trailer Report
+front_of r img = answered r (trailer_in img)

@@ -1,14 +1,16 @@
 -- What SetExpiry, Destroy and Replace answer and leave, in the cases that the code tells apart.
 -- Assumes nothing.
-use Prim.Native.Nat.{ℕ, ◌+◌, ◌-◌, ◌*◌, ◌^◌, ◌≤◌, ◌<◌}
-use mathlib.Core.Path.{◌≡◌, refl, ◌∙◌}
-use mathlib.Core.Bool.{Bool, true, false, not, ◌&&◌, ◌||◌}
+use Rattle.std.specs.Prelude.{Result, Ok, Err, Option, Some, None}
+use Rattle.std.specs.Option.{SomeIff, ok_or}
+use Prim.Native.Nat.{ℕ, zero, suc, ◌+◌, ◌-◌, ◌*◌, ◌^◌, ◌≤◌, ◌<◌}
+use mathlib.Core.Path.{◌≡◌, refl, sym, ap, ◌∙◌}
+use mathlib.Core.Bool.{Bool, true, false, not, ◌&&◌, ◌||◌, true≢false}
 use mathlib.Core.List.{List, [], ◌∷◌, ◌++◌}
 use native.Mathlib.Omega.{arith}
 use borrow.Author.Tests.{eqb-true, eq-eqb, ne_eqb, not-false}
 use lib.Dec.{eqb}
 use lib.ListN.{length}
-use Rattle.plain.specs.Tests.{when}
+use Rattle.plain.specs.Tests.{when, apart}
 use Rattle.word.specs.Word.{bytes_of}
 use Rattle.word.specs.Write.{puts}
 use Rattle.kinds.specs.Kinds.{ident}
@@ -39,28 +41,15 @@ use Rattle.promise.specs.Replace.{ReplacePromise, replace_answer, replace_image,
 use Rattle.promise.specs.Replace.{replace_writes}
 use Rattle.image.specs.Image.{Laid}
 use Rattle.image.proofs.Checks.{known}
-use Rattle.front.specs.Rows.{bad_times, reading_rows, time_rows, changing_rows, front_of}
+use Rattle.front.specs.Rows.{time_rows, answered}
 use Rattle.promise.proofs.RowLaws.{clear, stopped, passed, same_rest}
-use Rattle.front.proofs.Fronts.{no_expiry, is_admitted, is_timely, changing_rising}
-use Rattle.store.specs.Store.{find_rows, own_rows, sought_of, after, block_writes}
-use Rattle.front.specs.declared.Front.{Front}
-use Rattle.store.specs.declared.lookup.Sought.{Sought}
-use Rattle.store.specs.declared.lookup.Sought.TheVariants.{Refused, Found}
-use Rattle.store.proofs.Rows.{told_refused, told-found, joined}
-use Rattle.store.proofs.Lookups.{is_found}
+use Rattle.front.proofs.Fronts.{told_err, told_ok, err_more, ok_more, is_admitted, is_timely, no_expiry}
+use Rattle.front.specs.Rows.{bad_times, reading_rows, changing_rows}
+use Rattle.store.specs.Store.{find_rows, own_rows, found, left_of, block_writes}
+use Rattle.store.specs.declared.lookup.Found.{Found}
+use Rattle.store.proofs.Lookups.{own_seek_rows, own_answer, is_found}
 
 -- ---- a block that was found for its owner
-
-abbrev seek_rows : List ℕ → (client id expiry : ℕ) (room : Bool) (time : ℕ) → List Row
-seek_rows img client id expiry room time = changing_rows img client expiry time ++ own_rows img client id room
-
-pub own_sought : (img : List ℕ) (client id expiry : ℕ) (room : Bool) (time : ℕ) (f : Front)
-    → f ≡ front_of (lowest (changing_rows img client expiry time)) img
-    → (s : Sought) → s ≡ after f (lowest (own_rows img client id room)) (leads_to id)
-    → s ≡ sought_of (lowest (seek_rows img client id expiry room time)) (n_of img) (leads_to id)
-own_sought img client id expiry room time f e s p =
-    joined (changing_rows img client expiry time) (own_rows img client id room) img (leads_to id)
-    (changing_rising img client expiry time) f e s p
 
 pub record Held (img : List ℕ) (client id expiry : ℕ) (room : Bool) (time n b : ℕ) : Type 0 where
   pub laid : Laid img n
@@ -74,35 +63,37 @@ pub record Held (img : List ℕ) (client id expiry : ℕ) (room : Bool) (time n 
   pub owner : owner_of (header_of img b) ≡ client
   pub expires_fits : expires_of (header_of img b) < 2 ^ 40
   pub bit : free n img b ≡ false
-  pub report : succeeds (lowest (seek_rows img client id expiry room time)) ≡ true
+  pub report : succeeds (lowest (own_seek_rows img client id expiry room time)) ≡ true
 
 owner_is : (img : List ℕ) (client id : ℕ) → not_owner img client id ≡ false → owner_of (header_for img id) ≡ client
 unfolding not_owner
 owner_is img client id e = eqb-true (owner_of (header_for img id)) client (not-false _ e)
 
-pub held : (img : List ℕ) (client id expiry : ℕ) (room : Bool) (time n : ℕ) (b : BlockNum)
-    → sought_of (lowest (seek_rows img client id expiry room time)) (n_of img) (leads_to id) ≡ Found n b
-    → Held img client id expiry room time n b.0
+pub held : (img : List ℕ) (client id expiry : ℕ) (room : Bool) (time : ℕ) (f : Found)
+    → own_answer img client id expiry room time ≡ Ok f
+    → Held img client id expiry room time f.n f.b.0
 unfolding changing_rows reading_rows time_rows own_rows
-held img client id expiry room time n b e =
-    let w = told-found (lowest (seek_rows img client id expiry room time)) (n_of img) (leads_to id) n b e in
+held img client id expiry room time f e =
+    let w = told_ok (lowest (own_seek_rows img client id expiry room time)) (found img (leads_to id)) f e in
+    let n : n_of img ≡ f.n = ap (λ (x : Found). x.n) w.1 in
+    let b : leads_to id ≡ f.b.0 = ap (λ (x : Found). x.b.0) w.1 in
     let a = is_admitted img client (time_rows img expiry time ++ own_rows img client id room) w.0 in
     let t = is_timely img expiry time (own_rows img client id room) a.1 in
-    let f = is_found img id room (row (not_owner img client id) NotOwner ∷ []) t.1 in
-    let o = clear (row (not_owner img client id) NotOwner) [] (omega arith) f.2 in
-    let k = known img n (clock_of img) a.0.trailer w.1 refl in
+    let h = is_found img id room (row (not_owner img client id) NotOwner ∷ []) t.1 in
+    let o = clear (row (not_owner img client id) NotOwner) [] (omega arith) h.2 in
+    let k = known img f.n (clock_of img) a.0.trailer n refl in
     record {
       laid = k.laid;
-      below = omega (arith, f.1.below, w.1, w.2);
+      below = omega (arith, h.1.below, n, b);
       user = a.0.user;
       time_fits = t.0.time_fits;
       expiry_fits = t.0.expiry_fits;
-      its_room = f.0;
-      its_n = w.1;
-      its_b = w.2;
-      owner = rw w.2 at (owner_is img client id o.0);
-      expires_fits = rw w.2 at f.1.facts.in_time;
-      bit = rw (w.1, w.2) at f.1.bit;
+      its_room = h.0;
+      its_n = n;
+      its_b = b;
+      owner = rw b at (owner_is img client id o.0);
+      expires_fits = rw b at h.1.facts.in_time;
+      bit = rw (n, b) at h.1.bit;
       report = w.0;
     }
 
@@ -112,17 +103,15 @@ held_within img n b l h = omega (arith, l.size)
 -- ---- SetExpiry
 
 module _ (t : Tariff) (img : List ℕ) (client id expiry time : ℕ) (x : Receipt) where
-  set_report : set_expiry_report img client id expiry time ≡ lowest (seek_rows img client id expiry true time)
+  set_report : set_expiry_report img client id expiry time ≡ lowest (own_seek_rows img client id expiry true time)
   unfolding set_expiry_report set_expiry_rows changing_rows reading_rows time_rows bad_times own_rows find_rows lowest
   set_report = refl
 
-  pub set_refused : (n b : ℕ) (r : Report) → sought_of (lowest (seek_rows img client id expiry true time)) n b
-      ≡ Refused r
-      → x ≡ refusal t r
+  pub set_refused : (r : Report) → own_answer img client id expiry true time ≡ Err r → x ≡ refusal t r
       → SetExpiryPromise t img client id expiry time (record { receipt = x }) img
   unfolding set_expiry_answer set_expiry_image
-  set_refused n b r e p =
-      let w = told_refused (lowest (seek_rows img client id expiry true time)) n b r e in
+  set_refused r e p =
+      let w = told_err (lowest (own_seek_rows img client id expiry true time)) (found img (leads_to id)) r e in
       record { answer = rw (set_report, w.0, w.1, p); image = rw (set_report, w.0) }
 
   pub set_done : (n b : ℕ) → Held img client id expiry true time n b → (until : ℕ) → until ≡ later_of time expiry
@@ -151,12 +140,25 @@ count_last false false true z = refl
 count_last false false false true = refl
 count_last false false false false = refl
 
-module _ (t : Tariff) (img : List ℕ) (client id time : ℕ) (x : Receipt) where
+-- one less, where there is one
+pub none_less : (o : Option ℕ) (count : ℕ) (e r : Report) → SomeIff o (1 ≤ count) (count - 1) → ok_or o e ≡ Err r
+    → (count ≡ 0) × (r ≡ e)
+none_less None zero e r h q = (refl, sym (cc q))
+none_less None (suc k) e r h q = absurd (h (omega arith))
+none_less (Some x) count e r h q = absurd (apart cc)
+
+pub one_less : (o : Option ℕ) (count : ℕ) (e : Report) (x : ℕ) → SomeIff o (1 ≤ count) (count - 1) → ok_or o e ≡ Ok x
+    → (count ≡ 0 → ⊥) × (x ≡ count - 1)
+one_less None count e x h q = absurd (apart cc)
+one_less (Some y) count e x h q = let p : y ≡ x = cc q in (λ z. omega (arith, h.0), sym p ∙ h.1)
+
+module _ (img : List ℕ) (client id time : ℕ) where
   abbrev rest : List Row
   rest = row (eqb (count_of (n_of img) img (owner_of (header_for img id))) 0) Damaged ∷ []
 
-  destroy_report_lem : destroy_report img client id time ≡ lowest (seek_rows img client id 0 true time ++ rest)
-  unfolding destroy_report destroy_rows destroy_damaged changing_rows reading_rows time_rows own_rows find_rows
+  destroy_report_lem : lowest (destroy_rows img client id time)
+      ≡ lowest (own_seek_rows img client id 0 true time ++ rest)
+  unfolding destroy_rows destroy_damaged changing_rows reading_rows time_rows own_rows find_rows
   destroy_report_lem =
       rw (no_expiry time)
       (same_rest (row (bad_image img) BadImage ∷ row (bad_user client) BadUser ∷ row (bad_now time) BadTime ∷ row
@@ -164,40 +166,77 @@ module _ (t : Tariff) (img : List ℕ) (client id time : ℕ) (x : Receipt) wher
       (count_last (lookup_damaged img id) (no_such_block img id) (not_owner img client id)
       (eqb (count_of (n_of img) img (owner_of (header_for img id))) 0)))
 
-  pub destroy_refused : (n b : ℕ) (r : Report) → sought_of (lowest (seek_rows img client id 0 true time)) n b
-      ≡ Refused r
-      → x ≡ refusal t r
-      → DestroyPromise t img client id time (record { receipt = x }) img
-  unfolding destroy_answer destroy_image
-  destroy_refused n b r e p =
-      let w = told_refused (lowest (seek_rows img client id 0 true time)) n b r e in
-      let q = destroy_report_lem ∙ stopped (seek_rows img client id 0 true time) rest w.0 in
-      record { answer = rw (q, w.0, w.1, p); image = rw (q, w.0) }
+  abbrev pub destroy_found : Found × ℕ
+  destroy_found = (found img (leads_to id), left_of img client)
 
-  module _ (n b : ℕ) (k : Held img client id 0 true time n b) (count : ℕ) (c : count ≡ count_of n img client) where
-    by_count : destroy_report img client id time ≡ when (eqb count 0) Damaged Success
+  abbrev pub destroy_tested : Result (Found × ℕ) Report
+  destroy_tested = answered (lowest (destroy_rows img client id time)) destroy_found
+
+  pub not_owned : (r : Report) → own_answer img client id 0 true time ≡ Err r → destroy_tested ≡ Err r
+  not_owned r e = rw destroy_report_lem
+      (err_more (own_seek_rows img client id 0 true time) rest (found img (leads_to id)) destroy_found r e)
+
+  module _ (f : Found) (e : own_answer img client id 0 true time ≡ Ok f) (count : ℕ)
+      (c : count ≡ count_of f.n img client) where
+    by_count : lowest (destroy_rows img client id time) ≡ when (eqb count 0) Damaged Success
     unfolding lowest changing_rows reading_rows time_rows own_rows find_rows rising
     by_count =
-        destroy_report_lem ∙ passed 1 (seek_rows img client id 0 true time) rest (omega arith) refl k.report
+        let k = held img client id 0 true time f e in
+        destroy_report_lem ∙ passed 1 (own_seek_rows img client id 0 true time) rest (omega arith) refl k.report
         ∙ rw (k.its_n, k.its_b, k.owner, ← c)
 
-    pub destroy-damaged : count ≡ 0 → x ≡ refusal t Damaged
-        → DestroyPromise t img client id time (record { receipt = x }) img
-    unfolding destroy_answer destroy_image
-    destroy-damaged z p = record
-        { answer = rw (by_count, eq-eqb count 0 z, p); image = rw (by_count, eq-eqb count 0 z) }
+    module _ (o : Option ℕ) (h : SomeIff o (1 ≤ count) (count - 1)) where
+      pub none_left : (r : Report) → ok_or o Damaged ≡ Err r → destroy_tested ≡ Err r
+      unfolding answered
+      none_left r q = let z = none_less o count Damaged r h q in rw (by_count, eq-eqb count 0 z.0, z.1)
 
-    pub destroy-done : (count ≡ 0 → ⊥)
-        → x ≡ receipt Success (destroy_charge t (created_of (header_of img b)) (expires_of (header_of img b)) time)
-        → (img' : List ℕ) → img' ≡ puts img
-        (clock_set n time ∷ header_zeroed b ∷ bit_freed n img b ∷ count_set n client (count - 1) ∷ [])
-        → DestroyPromise t img client id time (record { receipt = x }) img'
-    unfolding destroy_answer destroy_image destroy_writes
-    destroy-done z p img' q =
-        record {
-          answer = rw (by_count, ne_eqb count 0 z, k.its_b, p);
-          image = rw (by_count, ne_eqb count 0 z, k.its_n, k.its_b, k.owner, ← c, q);
-        }
+      pub some_left : (left : ℕ) → ok_or o Damaged ≡ Ok left → destroy_tested ≡ Ok (f, left)
+      unfolding answered
+      some_left left q =
+          let z = one_less o count Damaged left h q in
+          let w = told_ok (lowest (own_seek_rows img client id 0 true time)) (found img (leads_to id)) f e in
+          let k = held img client id 0 true time f e in
+          rw (by_count, ne_eqb count 0 z.0, w.1, k.its_n, ← c, z.1)
+
+  -- what is known where none applies
+  pub destroy_held : (f : Found) (left : ℕ) → destroy_tested ≡ Ok (f, left)
+      → Held img client id 0 true time f.n f.b.0
+  unfolding answered
+  destroy_held f left e =
+      let w = told_ok (lowest (destroy_rows img client id time)) destroy_found (f, left) e in
+      held img client id 0 true time f (own (succeeds (lowest (own_seek_rows img client id 0 true time))) refl w.0
+      (ap (λ (x : Found × ℕ). x.0) w.1))
+    where
+      own : (t : Bool) → succeeds (lowest (own_seek_rows img client id 0 true time)) ≡ t
+          → succeeds (lowest (destroy_rows img client id time)) ≡ true → found img (leads_to id) ≡ f
+          → own_answer img client id 0 true time ≡ Ok f
+      own true q s p = rw (q, p)
+      own false q s p = absurd
+          (true≢false (sym s ∙ rw (destroy_report_lem, stopped (own_seek_rows img client id 0 true time) rest q) q))
+
+module _ (t : Tariff) (img : List ℕ) (client id time : ℕ) (x : Receipt) where
+  pub destroy_refused : (r : Report) → destroy_tested img client id time ≡ Err r → x ≡ refusal t r
+      → DestroyPromise t img client id time (record { receipt = x }) img
+  unfolding destroy_answer destroy_image destroy_report
+  destroy_refused r e p =
+      let w = told_err (lowest (destroy_rows img client id time)) (destroy_found img client id time) r e in
+      record { answer = rw (w.0, w.1, p); image = rw w.0 }
+
+  pub destroy_done : (f : Found) (left : ℕ) → destroy_tested img client id time ≡ Ok (f, left)
+      → x ≡ receipt Success
+      (destroy_charge t (created_of (header_of img f.b.0)) (expires_of (header_of img f.b.0)) time)
+      → (img' : List ℕ) → img' ≡ puts img
+      (clock_set f.n time ∷ header_zeroed f.b.0 ∷ bit_freed f.n img f.b.0 ∷ count_set f.n client left ∷ [])
+      → DestroyPromise t img client id time (record { receipt = x }) img'
+  unfolding destroy_answer destroy_image destroy_report destroy_writes
+  destroy_done f left e p img' q =
+      let w = told_ok (lowest (destroy_rows img client id time)) (destroy_found img client id time) (f, left) e in
+      let k = destroy_held img client id time f left e in
+      let l : left_of img client ≡ left = ap (λ (x : Found × ℕ). x.1) w.1 in
+      record {
+        answer = rw (w.0, k.its_b, p);
+        image = rw (w.0, k.its_b, k.owner, l, k.its_n, q);
+      }
 
 -- ---- Replace
 
@@ -205,17 +244,15 @@ module _ (t : Tariff) (img : List ℕ) (client id : ℕ) (bytes : List ℕ) (tim
   abbrev room : Bool
   room = eqb (length bytes) 528
 
-  replace_report_lem : replace_report img client id bytes time ≡ lowest (seek_rows img client id 0 room time)
+  replace_report_lem : replace_report img client id bytes time ≡ lowest (own_seek_rows img client id 0 room time)
   unfolding replace_report replace_rows changing_rows reading_rows time_rows own_rows find_rows
   replace_report_lem = rw (no_expiry time)
 
-  pub replace_refused : (n b : ℕ) (r : Report) → sought_of (lowest (seek_rows img client id 0 room time)) n b
-      ≡ Refused r
-      → x ≡ refusal t r
+  pub replace_refused : (r : Report) → own_answer img client id 0 room time ≡ Err r → x ≡ refusal t r
       → ReplacePromise t img client id bytes time (record { receipt = x; id = ident null_id }) img
   unfolding replace_answer replace_image
-  replace_refused n b r e p =
-      let w = told_refused (lowest (seek_rows img client id 0 room time)) n b r e in
+  replace_refused r e p =
+      let w = told_err (lowest (own_seek_rows img client id 0 room time)) (found img (leads_to id)) r e in
       record { answer = rw (replace_report_lem, w.0, w.1, p); image = rw (replace_report_lem, w.0) }
 
   pub replace_done : (n b : ℕ) → Held img client id 0 room time n b → (made : Id) → made ≡ ident (id_of time b)

@@ -1,12 +1,13 @@
 -- What Create answers and leaves, in the cases that the code tells apart.
 -- Assumes nothing.
+use Rattle.std.specs.Prelude.{Result, Ok, Err}
 use Prim.Native.Nat.{ℕ, ◌+◌, ◌^◌, ◌≤◌, ◌<◌}
 use mathlib.Core.Path.{◌≡◌, refl, sym, ap, ◌∙◌}
 use mathlib.Core.Bool.{Bool, true, false, not, ◌&&◌, ◌||◌}
 use mathlib.Core.List.{List, [], ◌∷◌, ◌++◌}
 use mathlib.Core.Logic.{⊎_elim}
 use native.Mathlib.Omega.{arith}
-use borrow.Author.Tests.{lt-ltb, le-ltb, le-leb, lt-leb, leb-false, not-false}
+use borrow.Author.Tests.{lt-ltb, le-ltb, le-leb, lt-leb, leb-false, not-false, eqb-true, eq-eqb, ne_eqb}
 use lib.Dec.{eqb, leb, ltb}
 use lib.ListN.{length}
 use Rattle.plain.specs.Numbers.{lt_or_le}
@@ -34,96 +35,35 @@ use Rattle.promise.specs.Create.{CreatePromise, create_answer, create_image, cre
 use Rattle.promise.specs.Create.{create_damaged, lowest_free, no_space}
 use Rattle.image.specs.Image.{Laid, Known}
 use Rattle.image.proofs.Checks.{known}
-use Rattle.front.specs.Rows.{bad_times, reading_rows, time_rows, changing_rows, front_of}
-use Rattle.promise.proofs.RowLaws.{clear, stopped, passed, same_rest}
-use Rattle.front.proofs.Fronts.{is_admitted, is_timely, changing_rising}
-use Rattle.store.specs.Store.{place_rows, sought_of, after, fill_writes}
-use Rattle.front.specs.declared.Front.{Front}
-use Rattle.store.specs.declared.lookup.Sought.{Sought}
-use Rattle.store.specs.declared.lookup.Sought.TheVariants.{Refused, Found}
-use Rattle.store.proofs.Rows.{told_refused, told-found, joined}
+use Rattle.image.specs.Image.{trailer_in}
+use Rattle.image.specs.declared.trailer.Trailer.{Trailer}
+use Rattle.front.specs.Rows.{bad_times, reading_rows, time_rows, changing_rows, front_of, answered}
+use Rattle.promise.proofs.RowLaws.{clear, passed, same_rest}
+use Rattle.front.proofs.Fronts.{told_err, told_ok, err_more, ok_more, is_admitted, is_timely, changing_rising}
+use Rattle.front.proofs.Fronts.{changing_known, changing_client}
+use Rattle.store.specs.Store.{fill_writes}
+use Rattle.store.specs.Places.{place_for}
+use Rattle.store.specs.declared.create.Place.{Place}
 
--- ---- a free block looked for
+-- ---- a free block that was found
 
-pub no_room : (img : List ℕ) (n b : ℕ) (room : Bool) → room ≡ false
-    → Refused BadRoom ≡ sought_of (lowest (place_rows img room)) n b
-unfolding sought_of lowest place_rows
-no_room img n b room e = rw e
-
-module _ (img : List ℕ) (n clock : ℕ) (k : Known img n clock) (room : Bool) (r : room ≡ true) (b : BlockNum) (e : b
-    ≡ block_num (first (free n img) 0 n)) where
-  its_b : lowest_free img ≡ b.0
-  unfolding lowest_free
-  its_b = rw k.its_n (sym (ap (λ (x : BlockNum). x.0) e))
-
-  pub no_space_lem : n ≤ b.0 → Refused NoSpace ≡ sought_of (lowest (place_rows img room)) n (lowest_free img)
-  unfolding sought_of lowest place_rows
-  no_space_lem h = rw (r, its_b, k.its_n, le-ltb b.0 n h, le-leb n b.0 h)
-
-  pub bad_header : b.0 < n → good img b.0 ≡ false
-      → Refused Damaged ≡ sought_of (lowest (place_rows img room)) n (lowest_free img)
-  unfolding sought_of lowest place_rows
-  bad_header h g = rw (r, its_b, k.its_n, lt-ltb b.0 n h, g)
-
-  pub has_space : b.0 < n → good img b.0 ≡ true
-      → Found n b ≡ sought_of (lowest (place_rows img room)) n (lowest_free img)
-  unfolding sought_of lowest place_rows
-  has_space h g = rw (r, its_b, k.its_n, lt-ltb b.0 n h, g, lt-leb n b.0 h)
-
--- ---- one that was found
-
-abbrev seek_rows : List ℕ → (client expiry : ℕ) (room : Bool) (time : ℕ) → List Row
-seek_rows img client expiry room time = changing_rows img client expiry time ++ place_rows img room
-
-pub free_sought : (img : List ℕ) (client expiry : ℕ) (room : Bool) (time : ℕ) (f : Front)
-    → f ≡ front_of (lowest (changing_rows img client expiry time)) img
-    → (s : Sought) → s ≡ after f (lowest (place_rows img room)) (lowest_free img)
-    → s ≡ sought_of (lowest (seek_rows img client expiry room time)) (n_of img) (lowest_free img)
-free_sought img client expiry room time f e s p =
-    joined (changing_rows img client expiry time) (place_rows img room) img (lowest_free img)
-    (changing_rising img client expiry time) f e s p
-
-pub record Free (img : List ℕ) (client expiry : ℕ) (room : Bool) (time n b : ℕ) : Type 0 where
-  pub laid : Laid img n
-  pub below : b < n
+pub record Free (img : List ℕ) (client expiry : ℕ) (bytes : List ℕ) (time : ℕ) (p : Place) : Type 0 where
+  pub laid : Laid img p.n
+  pub below : p.b.0 < p.n
   pub user : client < 64
   pub time_fits : time < 2 ^ 40
   pub expiry_fits : expiry < 2 ^ 40
-  pub its_room : room ≡ true
-  pub its_n : n_of img ≡ n
-  pub its_b : lowest_free img ≡ b
-  pub bit : free n img b ≡ true
-  pub report : succeeds (lowest (seek_rows img client expiry room time)) ≡ true
+  pub its_room : length bytes ≡ 528
+  pub its_n : n_of img ≡ p.n
+  pub its_b : lowest_free img ≡ p.b.0
+  pub its_count : count_of (n_of img) img client ≡ p.count
+  pub counted : p.count < p.n
+  pub bit : free p.n img p.b.0 ≡ true
+  pub report : succeeds (lowest (create_rows img client expiry bytes time)) ≡ true
 
 passes : (img : List ℕ) → lowest_free img < n_of img → free (n_of img) img (lowest_free img) ≡ true
 unfolding lowest_free
 passes img h = first_passes (free (n_of img) img) 0 (n_of img) (omega arith)
-
-pub freed : (img : List ℕ) (client expiry : ℕ) (room : Bool) (time n : ℕ) (b : BlockNum)
-    → sought_of (lowest (seek_rows img client expiry room time)) (n_of img) (lowest_free img) ≡ Found n b
-    → Free img client expiry room time n b.0
-unfolding changing_rows reading_rows time_rows place_rows
-freed img client expiry room time n b e =
-    let w = told-found (lowest (seek_rows img client expiry room time)) (n_of img) (lowest_free img) n b e in
-    let a = is_admitted img client (time_rows img expiry time ++ place_rows img room) w.0 in
-    let t = is_timely img expiry time (place_rows img room) a.1 in
-    let p = clear _ _ (omega arith) t.1 in
-    let d = clear _ _ (omega arith) p.1 in
-    let s = clear _ [] (omega arith) d.1 in
-    let l : lowest_free img < n_of img = leb-false (n_of img) (lowest_free img) s.0 in
-    let k = known img n (clock_of img) a.0.trailer w.1 refl in
-    record {
-      laid = k.laid;
-      below = omega (arith, l, w.1, w.2);
-      user = a.0.user;
-      time_fits = t.0.time_fits;
-      expiry_fits = t.0.expiry_fits;
-      its_room = not-false room p.0;
-      its_n = w.1;
-      its_b = w.2;
-      bit = rw (w.1, w.2) at (passes img l);
-      report = w.0;
-    }
 
 -- ---- the count is looked at last, though its row stands before that of no space
 
@@ -141,16 +81,22 @@ count_last false true true s z e = rw e
 count_last false true false s z e = refl
 count_last false false g s z e = rw e
 
-module _ (t : Tariff) (img : List ℕ) (client expiry : ℕ) (bytes : List ℕ) (time : ℕ) (x : Receipt) where
+module _ (img : List ℕ) (client expiry : ℕ) (bytes : List ℕ) (time : ℕ) where
   abbrev room : Bool
   room = eqb (length bytes) 528
 
+  -- the rows in the order in which they are tested
   abbrev rest : List Row
-  rest = row (leb (n_of img) (count_of (n_of img) img client)) Damaged ∷ []
+  rest =
+      row (not room) BadRoom
+      ∷ row (ltb (lowest_free img) (n_of img) && not (good img (lowest_free img))) Damaged
+      ∷ row (no_space img) NoSpace
+      ∷ row (leb (n_of img) (count_of (n_of img) img client)) Damaged
+      ∷ []
 
-  create_report_lem : create_report img client expiry bytes time
-      ≡ lowest (seek_rows img client expiry room time ++ rest)
-  unfolding create_report create_rows create_damaged changing_rows reading_rows time_rows bad_times place_rows
+  create_report_lem : lowest (create_rows img client expiry bytes time)
+      ≡ lowest (changing_rows img client expiry time ++ rest)
+  unfolding create_rows create_damaged changing_rows reading_rows time_rows bad_times
   create_report_lem =
       same_rest (row (bad_image img) BadImage ∷ row (bad_user client) BadUser ∷ row (bad_times expiry time) BadTime
       ∷ row
@@ -158,35 +104,120 @@ module _ (t : Tariff) (img : List ℕ) (client expiry : ℕ) (bytes : List ℕ) 
       (count_last (not room) (ltb (lowest_free img) (n_of img)) (good img (lowest_free img)) (no_space img)
       (leb (n_of img) (count_of (n_of img) img client)) (leb-not (n_of img) (lowest_free img)))
 
-  pub create_refused : (n b : ℕ) (r : Report) → sought_of (lowest (seek_rows img client expiry room time)) n b
-      ≡ Refused r
-      → x ≡ refusal t r
-      → CreatePromise t img client expiry bytes time (record { receipt = x; id = ident null_id }) img
-  unfolding create_answer create_image
-  create_refused n b r e p =
-      let w = told_refused (lowest (seek_rows img client expiry room time)) n b r e in
-      let q = create_report_lem ∙ stopped (seek_rows img client expiry room time) rest w.0 in
-      record { answer = rw (q, w.0, w.1, p); image = rw (q, w.0) }
+  abbrev pub create_tested : Result Place Report
+  create_tested = answered (lowest (create_rows img client expiry bytes time)) (place_for img client)
 
-  module _ (n b : ℕ) (k : Free img client expiry room time n b) (count : ℕ) (c : count ≡ count_of n img client) where
-    by_count : create_report img client expiry bytes time ≡ when (leb n count) Damaged Success
-    unfolding lowest changing_rows reading_rows time_rows place_rows rising
-    by_count =
-        create_report_lem ∙ passed 1 (seek_rows img client expiry room time) rest (omega arith) refl k.report
-        ∙ rw (k.its_n, ← c)
+  pub not_opened : (r : Report) → front_of (lowest (changing_rows img client expiry time)) img ≡ Err r
+      → create_tested ≡ Err r
+  not_opened r e = rw create_report_lem
+      (err_more (changing_rows img client expiry time) rest (trailer_in img) (place_for img client) r e)
 
-    pub create-damaged : n ≤ count → x ≡ refusal t Damaged
-        → CreatePromise t img client expiry bytes time (record { receipt = x; id = ident null_id }) img
-    unfolding create_answer create_image
-    create-damaged h p = record { answer = rw (by_count, le-leb n count h, p); image = rw (by_count, le-leb n count h) }
+  module _ (t : Trailer) (e : front_of (lowest (changing_rows img client expiry time)) img ≡ Ok t) where
+    by_rest : answered (lowest rest) (place_for img client) ≡ create_tested
+    by_rest = ok_more (changing_rows img client expiry time) rest (trailer_in img) (place_for img client)
+        (changing_rising img client expiry time) t e ∙ sym (ap (λ r. answered r (place_for img client)) create_report_lem)
 
-    pub create-done : count < n → (expires : ℕ) → expires ≡ later_of time expiry → (made : Id)
-        → made ≡ ident (id_of time b) → x ≡ receipt Success (create_charge t time expires)
-        → (img' : List ℕ) → img' ≡ puts img (fill_writes img n b client made.0 expires (count + 1) bytes time)
-        → CreatePromise t img client expiry bytes time (record { receipt = x; id = made }) img'
-    unfolding create_answer create_image create_writes
-    create-done h expires u made m p img' q =
+    pub opened : Known img t.n t.clock.0
+    opened = changing_known img client expiry time t e
+
+    pub bad_room : (length bytes ≡ 528 → ⊥) → create_tested ≡ Err BadRoom
+    unfolding answered lowest
+    bad_room d = sym by_rest ∙ rw (ne_eqb (length bytes) 528 d)
+
+    module _ (q : length bytes ≡ 528) (b : BlockNum) (f : b ≡ block_num (first (free t.n img) 0 t.n)) where
+      its_b : lowest_free img ≡ b.0
+      unfolding lowest_free
+      its_b = rw opened.its_n (sym (ap (λ (x : BlockNum). x.0) f))
+
+      pub no_block : t.n ≤ b.0 → create_tested ≡ Err NoSpace
+      unfolding answered lowest
+      no_block h = sym by_rest
+          ∙ rw (eq-eqb (length bytes) 528 q, its_b, opened.its_n, le-ltb b.0 t.n h, le-leb t.n b.0 h)
+
+      module _ (h : b.0 < t.n) where
+        pub bad_header : good img b.0 ≡ false → create_tested ≡ Err Damaged
+        unfolding answered lowest
+        bad_header g = sym by_rest ∙ rw (eq-eqb (length bytes) 528 q, its_b, opened.its_n, lt-ltb b.0 t.n h, g)
+
+        module _ (g : good img b.0 ≡ true) (count : ℕ) (c : count ≡ count_of t.n img client) where
+          pub bad_count : t.n ≤ count → create_tested ≡ Err Damaged
+          unfolding answered lowest
+          bad_count l = sym by_rest
+              ∙ rw (
+                eq-eqb (length bytes) 528 q,
+                its_b,
+                opened.its_n,
+                lt-ltb b.0 t.n h,
+                g,
+                lt-leb t.n b.0 h,
+                ← c,
+                le-leb t.n count l,
+              )
+
+          pub has_place : count < t.n → create_tested ≡ Ok (record { n = t.n; b = b; count = count })
+          unfolding answered lowest
+          has_place l = sym by_rest
+              ∙ rw (
+                eq-eqb (length bytes) 528 q,
+                its_b,
+                opened.its_n,
+                lt-ltb b.0 t.n h,
+                g,
+                lt-leb t.n b.0 h,
+                ← c,
+                lt-leb t.n count l,
+              )
+
+  -- what is known where none applies
+  module _ (p : Place) (e : create_tested ≡ Ok p) where
+    told : (succeeds (lowest (create_rows img client expiry bytes time)) ≡ true) × (place_for img client ≡ p)
+    told = told_ok (lowest (create_rows img client expiry bytes time)) (place_for img client) p e
+
+    its_n : n_of img ≡ p.n
+    its_n = ap (λ (x : Place). x.n) told.1
+
+    pub free_block : Free img client expiry bytes time p
+    unfolding changing_rows reading_rows time_rows
+    free_block =
+        let a = is_admitted img client (time_rows img expiry time ++ rest) (rw create_report_lem at told.0) in
+        let t = is_timely img expiry time rest a.1 in
+        let r = clear _ _ (omega arith) t.1 in
+        let d = clear _ _ (omega arith) r.1 in
+        let s = clear _ _ (omega arith) d.1 in
+        let k = clear _ [] (omega arith) s.1 in
+        let l : lowest_free img < n_of img = leb-false (n_of img) (lowest_free img) s.0 in
+        let b : lowest_free img ≡ p.b.0 = ap (λ (x : Place). x.b.0) told.1 in
+        let m : count_of (n_of img) img client ≡ p.count = ap (λ (x : Place). x.count) told.1 in
         record {
-          answer = rw (by_count, lt-leb n count h, k.its_b, ← u, p, m);
-          image = rw (by_count, lt-leb n count h, k.its_n, k.its_b, ← u, ← c, q, m);
+          laid = (known img p.n (clock_of img) a.0.trailer its_n refl).laid;
+          below = omega (arith, l, its_n, b);
+          user = a.0.user;
+          time_fits = t.0.time_fits;
+          expiry_fits = t.0.expiry_fits;
+          its_room = eqb-true (length bytes) 528 (not-false _ r.0);
+          its_n = its_n;
+          its_b = b;
+          its_count = m;
+          counted = omega (arith, leb-false (n_of img) (count_of (n_of img) img client) k.0, its_n, m);
+          bit = rw (its_n, b) at (passes img l);
+          report = told.0;
         }
+
+module _ (t : Tariff) (img : List ℕ) (client expiry : ℕ) (bytes : List ℕ) (time : ℕ) (x : Receipt) where
+  pub create_refused : (r : Report) → create_tested img client expiry bytes time ≡ Err r → x ≡ refusal t r
+      → CreatePromise t img client expiry bytes time (record { receipt = x; id = ident null_id }) img
+  unfolding create_answer create_image create_report
+  create_refused r e p =
+      let w = told_err (lowest (create_rows img client expiry bytes time)) (place_for img client) r e in
+      record { answer = rw (w.0, w.1, p); image = rw w.0 }
+
+  pub create_done : (p : Place) → Free img client expiry bytes time p → (expires : ℕ) → expires ≡ later_of time expiry
+      → (made : Id) → made ≡ ident (id_of time p.b.0) → x ≡ receipt Success (create_charge t time expires)
+      → (img' : List ℕ) → img' ≡ puts img (fill_writes img p.n p.b.0 client made.0 expires (p.count + 1) bytes time)
+      → CreatePromise t img client expiry bytes time (record { receipt = x; id = made }) img'
+  unfolding create_answer create_image create_report create_writes
+  create_done p k expires u made m q img' v =
+      record {
+        answer = rw (k.report, k.its_b, ← u, q, m);
+        image = rw (k.report, k.its_b, k.its_count, k.its_n, ← u, v, m);
+      }

@@ -1,6 +1,5 @@
-pub mod Rows
 pub mod Lookups
-pub mod Answers
+pub mod Sights
 pub mod Stores
 pub mod Changes
 pub mod Creates

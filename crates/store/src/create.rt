@@ -3,45 +3,53 @@ ghost use Rattle.std.specs.Prelude.{◌≡◌, true, ◌<◌, length};
 ghost use Rattle.word.specs.Write.{puts};
 ghost use Rattle.promise.specs.Map.{free};
 ghost use Rattle.promise.specs.Refusals.{lowest};
-ghost use Rattle.promise.specs.Create.{lowest_free, CreatePromise};
-ghost use Rattle.image.specs.Image.{Laid, Known};
-ghost use Rattle.store.specs.Store.{place_rows, sought_of, after, Opened, fill_writes};
+ghost use Rattle.promise.specs.Create.{create_rows, CreatePromise};
+ghost use Rattle.image.specs.Image.{Laid};
+ghost use Rattle.front.specs.Rows.{answered};
+ghost use Rattle.store.specs.Store.{fill_writes};
+ghost use Rattle.store.specs.Places.{place_for};
 
-use crate::lookup::Sought;
 use crate::{block, later_of};
-use front::Front;
 use image::layout::SERVICE_BLOCK;
 use image::{counts, header, map};
 use kinds::{BlockNum, CreateAnswer, Id, Report, Tick, User};
 use tariff::Tariff;
 
-// The buffer's room, then the lowest free block and its header.
-fn find_free(room: bool, n: usize, clock: Tick, img: &[u8]) -> Sought
-    requires { Known img.now n clock.0 }
-    ensures { result ≡ sought_of (lowest (place_rows img.now room)) n (lowest_free img.now) }
-{
-    if !room {
-        return Sought::Refused(Report::BadRoom);
-    }
-    let b = map::lowest_free(img, n);
-    if n <= (b.0 as usize) {
-        return Sought::Refused(Report::NoSpace);
-    }
-    if !header::is_good(img, n, clock, b) {
-        return Sought::Refused(Report::Damaged);
-    }
-    Sought::Found { n, b }
+// A block for the client: the image's N, the lowest free block, and how many the client has.
+#[derive(Clone, Copy)]
+struct Place {
+    n: usize,
+    b: BlockNum,
+    count: u64,
 }
 
-// All tests that follow those in front, but the count's.
-fn seek_free(f: Front, room: bool, img: &[u8]) -> Sought
-    requires { Opened f img.now }
-    ensures { result ≡ after f (lowest (place_rows img.now room)) (lowest_free img.now) }
+// All tests, the count's last.
+fn seek_free(
+    client: User,
+    expiry: Tick,
+    bytes: &[u8],
+    time: Tick,
+    img: &[u8],
+) -> Result<Place, Report>
+    ensures { result ≡ answered (lowest (create_rows img.now client.0 expiry.0 bytes.now time.0))
+        (place_for img.now client.0) }
 {
-    match f {
-        Front::Shut(r) => Sought::Refused(r),
-        Front::Open { n, clock } => find_free(room, n, clock, img),
+    let t = front::changing(client, expiry, time, img)?;
+    if bytes.len() != SERVICE_BLOCK {
+        return Err(Report::BadRoom);
     }
+    let b = map::lowest_free(img, t.n);
+    if t.n <= (b.0 as usize) {
+        return Err(Report::NoSpace);
+    }
+    if !header::is_good(img, t.n, t.clock, b) {
+        return Err(Report::Damaged);
+    }
+    let count = counts::count_of(img, t.n, client);
+    if (t.n as u64) <= count {
+        return Err(Report::Damaged);
+    }
+    Ok(Place { n: t.n, b, count })
 }
 
 // The stores.
@@ -78,27 +86,18 @@ pub fn create(
     ensures { CreatePromise t img.old client.0 expiry.0 bytes.now time.0 result
         img.new }
 {
-    let f = front::changing(client, expiry, time, img);
-    let s = seek_free(f, bytes.len() == SERVICE_BLOCK, img);
-    match s {
-        Sought::Refused(r) => CreateAnswer {
+    match seek_free(client, expiry, bytes, time, img) {
+        Err(r) => CreateAnswer {
             receipt: front::refused(t, r),
             id: Id(0),
         },
-        Sought::Found { n, b } => {
-            let count = counts::count_of(img, n, client);
-            if (n as u64) <= count {
-                return CreateAnswer {
-                    receipt: front::refused(t, Report::Damaged),
-                    id: Id(0),
-                };
-            }
+        Ok(Place { n, b, count }) => {
             let expires = later_of(time, expiry);
-            let made = ident::make(time, b);
-            fill(img, n, b, client, made, expires, count + 1, bytes, time);
+            let id = ident::make(time, b);
+            fill(img, n, b, client, id, expires, count + 1, bytes, time);
             CreateAnswer {
                 receipt: front::done(tariff::create_charge(t, time, expires)),
-                id: made,
+                id,
             }
         }
     }

@@ -7,11 +7,15 @@ ghost use Rattle.promise.specs.Trailer.{clock_set};
 ghost use Rattle.promise.specs.Header.{header_of, header_zeroed, created_of, expires_of};
 ghost use Rattle.promise.specs.Map.{free, bit_freed};
 ghost use Rattle.promise.specs.Counts.{count_set};
-ghost use Rattle.promise.specs.Destroy.{DestroyPromise};
+ghost use Rattle.promise.specs.Refusals.{lowest};
+ghost use Rattle.promise.specs.Lookup.{leads_to};
+ghost use Rattle.promise.specs.Destroy.{destroy_rows, DestroyPromise};
 ghost use Rattle.image.specs.Image.{Laid};
+ghost use Rattle.front.specs.Rows.{answered};
+ghost use Rattle.store.specs.Store.{found, left_of};
 
 use crate::lookup;
-use crate::lookup::Sought;
+use crate::lookup::Found;
 use image::layout::HEADER;
 use image::{counts, header, map, trailer};
 use kinds::{BlockNum, DestroyAnswer, Id, Money, Report, Tick, User};
@@ -44,24 +48,28 @@ fn erase(img: &mut [u8], n: usize, b: BlockNum, owner: User, count: u64, time: T
     counts::set_count(img, n, owner, count)
 }
 
+// All tests, and how many blocks the client has after it.
+fn seek(client: User, id: Id, time: Tick, img: &[u8]) -> Result<(Found, u64), Report>
+    ensures { result ≡ answered (lowest (destroy_rows img.now client.0 id.0 time.0))
+        (found img.now (leads_to id.0), left_of img.now client.0) }
+{
+    let f = lookup::seek_own(client, id, true, Tick(0), time, img)?;
+    let left = counts::count_of(img, f.n, client)
+        .checked_sub(1)
+        .ok_or(Report::Damaged)?;
+    Ok((f, left))
+}
+
 pub fn destroy(t: Tariff, client: User, id: Id, time: Tick, img: &mut [u8]) -> DestroyAnswer
     ensures { DestroyPromise t img.old client.0 id.0 time.0 result img.new }
 {
-    let f = front::changing(client, Tick(0), time, img);
-    let s = lookup::seek_own(f, client, id, true, img);
-    match s {
-        Sought::Refused(r) => DestroyAnswer {
+    match seek(client, id, time, img) {
+        Err(r) => DestroyAnswer {
             receipt: front::refused(t, r),
         },
-        Sought::Found { n, b } => {
-            let count = counts::count_of(img, n, client);
-            if count == 0 {
-                return DestroyAnswer {
-                    receipt: front::refused(t, Report::Damaged),
-                };
-            }
+        Ok((Found { n, b }, left)) => {
             let charge = charge_of(t, n, b, time, img);
-            erase(img, n, b, client, count - 1, time);
+            erase(img, n, b, client, left, time);
             DestroyAnswer {
                 receipt: front::done(charge),
             }

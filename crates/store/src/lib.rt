@@ -20,8 +20,9 @@ pub mod set_expiry;
 pub mod status;
 
 // The later of now and the asked expiry.
+#[tactic(auto, unfolding(promise::specs::Header::later_of))]
 pub(crate) fn later_of(time: Tick, expiry: Tick) -> Tick
     ensures { result ≡ tick (later_of time.0 expiry.0) }
 {
-    if time.0 < expiry.0 { expiry } else { time }
+    Tick(time.0.max(expiry.0))
 }

@@ -1,119 +1,75 @@
 // An id looked up, and with it all tests of the operations that name a block by its id.
-ghost use Rattle.std.specs.Prelude.{◌≡◌, true, ◌<◌};
-ghost use Rattle.ident.specs.Ident.{shaped_in, undone};
+ghost use Rattle.std.specs.Prelude.{◌≡◌, ◌++◌};
+ghost use Rattle.kinds.specs.Kinds.{block_num};
 ghost use Rattle.promise.specs.Lookup.{leads_to};
 ghost use Rattle.promise.specs.Refusals.{lowest};
 ghost use Rattle.image.specs.Image.{Known};
-ghost use Rattle.store.specs.Store.{lookup_of, find_rows, own_rows, sought_of, after, Opened};
+ghost use Rattle.front.specs.Rows.{reading_rows, changing_rows, answered};
+ghost use Rattle.store.specs.Store.{find_rows, own_rows, found};
 
-use front::Front;
-use ident::Shape;
 use image::header;
 use image::layout::HEADER;
+use image::trailer::Trailer;
 use kinds::{BlockNum, Id, Report, Tick, User};
 
-// What an id leads to: no block, as it is not shaped or not there; a header that is not good; a block.
+// The block that an operation is about, and the image's N.
 #[derive(Clone, Copy)]
-pub(crate) enum Lookup {
-    Missing,
-    Broken,
-    At(BlockNum),
+pub(crate) struct Found {
+    pub n: usize,
+    pub b: BlockNum,
 }
 
-// How all tests end: with a report, or with N and the block that the operation is about.
-#[derive(Clone, Copy)]
-pub(crate) enum Sought {
-    Refused(Report),
-    Found { n: usize, b: BlockNum },
-}
-
-// The header that a shaped id leads to.
-fn look_at(id: Id, b: BlockNum, n: usize, clock: Tick, img: &[u8]) -> Lookup
-    requires { Known img.now n clock.0 × (b.0 < n) × (leads_to id.0 ≡ b.0)
-        × (shaped_in n (undone id.0) ≡ true) }
-    ensures { result ≡ lookup_of img.now id.0 }
+// The buffer's room, then the block that the id leads to.
+#[tactic(auto, using(crate::proofs::Lookups::find_cases))]
+fn find(id: Id, room: bool, t: Trailer, img: &[u8]) -> Result<BlockNum, Report>
+    requires { Known img.now t.n t.clock.0 }
+    ensures { result ≡ answered (lowest (find_rows img.now id.0 room)) (block_num (leads_to id.0)) }
 {
-    if !header::is_good(img, n, clock, b) {
-        return Lookup::Broken;
+    if !room {
+        return Err(Report::BadRoom);
+    }
+    let b = ident::shaped(id, t.n as u32).ok_or(Report::NoSuchBlock)?;
+    if !header::is_good(img, t.n, t.clock, b) {
+        return Err(Report::Damaged);
     }
     let at = HEADER * (b.0 as usize);
     let end = at + HEADER;
     let h = &img[at..end];
-    if !header::is_used(h) {
-        return Lookup::Missing;
+    if !header::is_used(h) || header::id(h) != id {
+        return Err(Report::NoSuchBlock);
     }
-    let held = header::id(h);
-    if held.0 == id.0 {
-        return Lookup::At(b);
-    }
-    Lookup::Missing
+    Ok(b)
 }
 
-fn look_up(id: Id, n: usize, clock: Tick, img: &[u8]) -> Lookup
-    requires { Known img.now n clock.0 }
-    ensures { result ≡ lookup_of img.now id.0 }
+// All tests of Read and Status.
+pub(crate) fn seek(client: User, id: Id, room: bool, img: &[u8]) -> Result<Found, Report>
+    ensures { result ≡ answered (lowest (reading_rows img.now client.0 ++ find_rows img.now id.0 room))
+        (found img.now (leads_to id.0)) }
 {
-    let s = ident::shaped(id, n as u32);
-    match s {
-        Shape::Unshaped => Lookup::Missing,
-        Shape::Shaped(b) => look_at(id, b, n, clock, img),
-    }
+    let t = front::reading(client, img)?;
+    let b = find(id, room, t, img)?;
+    Ok(Found { n: t.n, b })
 }
 
-// The buffer's room, then the id.
-fn find(id: Id, room: bool, n: usize, clock: Tick, img: &[u8]) -> Sought
-    requires { Known img.now n clock.0 }
-    ensures { result ≡ sought_of (lowest (find_rows img.now id.0 room)) n (leads_to id.0) }
+// All tests of Replace and SetExpiry, and those of Destroy but its count's.
+pub(crate) fn seek_own(
+    client: User,
+    id: Id,
+    room: bool,
+    expiry: Tick,
+    time: Tick,
+    img: &[u8],
+) -> Result<Found, Report>
+    ensures { result ≡ answered
+        (lowest (changing_rows img.now client.0 expiry.0 time.0 ++ own_rows img.now client.0 id.0 room))
+        (found img.now (leads_to id.0)) }
 {
-    if !room {
-        return Sought::Refused(Report::BadRoom);
+    let t = front::changing(client, expiry, time, img)?;
+    let b = find(id, room, t, img)?;
+    let at = HEADER * (b.0 as usize);
+    let end = at + HEADER;
+    if header::owner(&img[at..end]) != client {
+        return Err(Report::NotOwner);
     }
-    let l = look_up(id, n, clock, img);
-    match l {
-        Lookup::Missing => Sought::Refused(Report::NoSuchBlock),
-        Lookup::Broken => Sought::Refused(Report::Damaged),
-        Lookup::At(b) => Sought::Found { n, b },
-    }
-}
-
-// All tests of Read and Status that follow those in front.
-pub(crate) fn seek(f: Front, id: Id, room: bool, img: &[u8]) -> Sought
-    requires { Opened f img.now }
-    ensures { result ≡ after f (lowest (find_rows img.now id.0 room)) (leads_to id.0) }
-{
-    match f {
-        Front::Shut(r) => Sought::Refused(r),
-        Front::Open { n, clock } => find(id, room, n, clock, img),
-    }
-}
-
-// The buffer's room, the id, then the owner.
-fn find_own(client: User, id: Id, room: bool, n: usize, clock: Tick, img: &[u8]) -> Sought
-    requires { Known img.now n clock.0 }
-    ensures { result ≡ sought_of (lowest (own_rows img.now client.0 id.0 room)) n (leads_to id.0) }
-{
-    let s = find(id, room, n, clock, img);
-    match s {
-        Sought::Refused(r) => Sought::Refused(r),
-        Sought::Found { b, .. } => {
-            let at = HEADER * (b.0 as usize);
-            let end = at + HEADER;
-            let owner = header::owner(&img[at..end]);
-            if owner.0 == client.0 {
-                return Sought::Found { n, b };
-            }
-            Sought::Refused(Report::NotOwner)
-        }
-    }
-}
-
-// All tests of Replace and SetExpiry that follow those in front, and those of Destroy but its count's.
-pub(crate) fn seek_own(f: Front, client: User, id: Id, room: bool, img: &[u8]) -> Sought
-    requires { Opened f img.now }
-    ensures { result ≡ after f (lowest (own_rows img.now client.0 id.0 room)) (leads_to id.0) }
-{
-    match f {
-        Front::Shut(r) => Sought::Refused(r),
-        Front::Open { n, clock } => find_own(client, id, room, n, clock, img),
-    }
+    Ok(Found { n: t.n, b })
 }

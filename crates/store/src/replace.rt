@@ -1,7 +1,7 @@
 // Replace: new bytes and a new id in the block's place, which keeps its number and its expires.
 ghost use Rattle.promise.specs.Replace.{ReplacePromise};
 
-use crate::lookup::Sought;
+use crate::lookup::Found;
 use crate::{block, lookup};
 use image::header;
 use image::layout::{HEADER, SERVICE_BLOCK};
@@ -19,14 +19,12 @@ pub fn replace(
     ensures { ReplacePromise t img.old client.0 id.0 bytes.now time.0 result
         img.new }
 {
-    let f = front::changing(client, Tick(0), time, img);
-    let s = lookup::seek_own(f, client, id, bytes.len() == SERVICE_BLOCK, img);
-    match s {
-        Sought::Refused(r) => ReplaceAnswer {
+    match lookup::seek_own(client, id, bytes.len() == SERVICE_BLOCK, Tick(0), time, img) {
+        Err(r) => ReplaceAnswer {
             receipt: front::refused(t, r),
             id: Id(0),
         },
-        Sought::Found { n, b } => {
+        Ok(Found { n, b }) => {
             let at = HEADER * (b.0 as usize);
             let end = at + HEADER;
             let h = &img[at..end];

@@ -10,7 +10,7 @@ ghost use Rattle.promise.specs.Header.{header_of, created_of, expires_of};
 ghost use Rattle.promise.specs.SetExpiry.{SetExpiryPromise};
 ghost use Rattle.image.specs.Image.{Laid};
 
-use crate::lookup::Sought;
+use crate::lookup::Found;
 use crate::{later_of, lookup};
 use image::layout::HEADER;
 use image::{header, trailer};
@@ -53,13 +53,11 @@ pub fn set_expiry(
     ensures { SetExpiryPromise t img.old client.0 id.0 expiry.0 time.0 result
         img.new }
 {
-    let f = front::changing(client, expiry, time, img);
-    let s = lookup::seek_own(f, client, id, true, img);
-    match s {
-        Sought::Refused(r) => SetExpiryAnswer {
+    match lookup::seek_own(client, id, true, expiry, time, img) {
+        Err(r) => SetExpiryAnswer {
             receipt: front::refused(t, r),
         },
-        Sought::Found { n, b } => {
+        Ok(Found { n, b }) => {
             let until = later_of(time, expiry);
             let charge = charge_of(t, n, b, until, img);
             keep(img, n, b, until, time);

@@ -2,7 +2,7 @@
 ghost use Rattle.promise.specs.Status.{StatusPromise};
 
 use crate::lookup;
-use crate::lookup::Sought;
+use crate::lookup::Found;
 use image::header;
 use image::layout::HEADER;
 use kinds::{Id, StatusAnswer, Tick, User};
@@ -11,16 +11,14 @@ use tariff::Tariff;
 pub fn status(t: Tariff, client: User, id: Id, img: &[u8]) -> StatusAnswer
     ensures { StatusPromise t img.now client.0 id.0 result }
 {
-    let f = front::reading(client, img);
-    let s = lookup::seek(f, id, true, img);
-    match s {
-        Sought::Refused(r) => StatusAnswer {
+    match lookup::seek(client, id, true, img) {
+        Err(r) => StatusAnswer {
             receipt: front::refused(t, r),
             owner: User(0),
             created: Tick(0),
             expires: Tick(0),
         },
-        Sought::Found { b, .. } => {
+        Ok(Found { b, .. }) => {
             let at = HEADER * (b.0 as usize);
             let end = at + HEADER;
             let h = &img[at..end];
