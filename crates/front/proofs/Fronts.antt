@@ -34,10 +34,14 @@ pub told_ok : {A : Type 0} (r : Report) (a b : A) → answered r a ≡ Ok b → 
 unfolding answered
 told_ok r a b e = let w = was_first (succeeds r) (λ q. apart cc) e in (w.0, cc w.1)
 
--- where `?` passes a report on
-pub exit : {A E : Type 0} (x : Result A E) {z : Result A E} {r : E} → IsErrAnd x (λ y. y ≡ r) → z ≡ Err r → x ≡ z
-exit (Ok a) h e = absurd h
-exit (Err y) h e = ap Err h ∙ sym e
+-- `?` gives on the report that it was given
+pub rethrown : {A : Type 0} (x : Result A Report) (r : Report) → IsErrAnd x (λ s. s ≡ r) → x ≡ Err r
+rethrown (Ok a) r h = absurd h
+rethrown (Err s) r h = rw h
+
+pub exit : {A : Type 0} (x : Result A Report) {z : Result A Report} {r : Report} → IsErrAnd x (λ s. s ≡ r) → z ≡ Err r
+    → x ≡ z
+exit x {r = r} h e = rethrown x r h ∙ sym e
 
 -- ---- the answer of two groups
 

@@ -1,13 +1,14 @@
--- Profile, outcome by outcome.
+-- Profile, answered by answered.
 -- Assumes nothing.
 use Prim.Native.Nat.{ℕ, ◌+◌, ◌*◌, ◌≤◌, ◌<◌}
-use mathlib.Core.Path.{◌≡◌, refl, sym, ◌∙◌}
+use mathlib.Core.Path.{◌≡◌, refl, sym, ◌∙◌, ap}
 use mathlib.Core.Bool.{Bool, true, false, not}
 use mathlib.Core.List.{List, [], ◌∷◌, ◌++◌}
 use native.Mathlib.Omega.{arith}
-use borrow.Author.Tests.{eq-eqb, leb-false}
+use borrow.Author.Tests.{leb-false, ltb-false, not-false}
 use lib.Dec.{ltb}
 use lib.ListN.{length}
+use Rattle.std.specs.Prelude.{Result, Ok, Err}
 use Rattle.word.specs.Word.{bytes_of}
 use Rattle.word.specs.Write.{over}
 use Rattle.word.proofs.Laws.{length-bytes_of, over_nil}
@@ -15,29 +16,31 @@ use Rattle.run.specs.Run as Run
 use Rattle.run.specs.Run.{one, just, picked, rows}
 use Rattle.run.proofs.Laws.{one_yes, one_no}
 use Rattle.run.proofs.Turns.{row-yes, row-no}
-use Rattle.kinds.specs.Report.{number_of}
 use Rattle.kinds.specs.declared.ProfileAnswer.{ProfileAnswer}
 use Rattle.kinds.specs.declared.Report.{Report}
 use Rattle.kinds.specs.declared.Report.TheVariants.{Success, Damaged}
 use Rattle.kinds.specs.declared.Tick.{Tick}
 use Rattle.tariff.specs.Charges.{profile_charge}
 use Rattle.tariff.specs.declared.Tariff.{Tariff}
-use Rattle.promise.specs.Trailer.{n_of}
+use Rattle.promise.specs.Trailer.{n_of, clock_of, trailer_right}
 use Rattle.promise.specs.Header.{is_used}
-use Rattle.promise.specs.Refusals.{Row, row, lowest, receipt, refusal}
+use Rattle.promise.specs.Refusals.{Row, row, lowest, succeeds, receipt, refusal}
 use Rattle.promise.proofs.RefusalLaws.{rising}
 use Rattle.promise.proofs.RowLaws.{clear}
 use Rattle.promise.specs.Keys.{reach, key_at, visited_good}
 use Rattle.promise.specs.Profile.{profiled, profile_row, profile_rows, profile_report, profile_answer, profile_buffer}
 use Rattle.promise.specs.Profile.{ProfilePromise}
+use Rattle.image.specs.Image.{trailer_in, Laid}
+use Rattle.image.proofs.Checks.{known}
 use Rattle.image.proofs.Tallies.{lent_header}
 use Rattle.image.proofs.Pieces.{next}
-use Rattle.front.specs.Rows.{reading_rows, front_of}
-use Rattle.front.specs.declared.Front.TheVariants.{Shut, Open}
-use Rattle.front.proofs.Fronts.{told_open, reading_rising}
+use Rattle.front.specs.Rows.{reading_rows, front_of, answered}
+use Rattle.image.specs.declared.trailer.Trailer.{Trailer}
+use Rattle.front.proofs.Fronts.{told_err, told_ok, reading_rising}
 use Rattle.keys.specs.Visit.{used, entry_of}
-use Rattle.keys.specs.Asked.{manager_rows}
-use Rattle.keys.proofs.Rows.{Refused, in_front, by-numbers, by-headers}
+use Rattle.keys.specs.Asked.{manager_rows, span}
+use Rattle.keys.specs.declared.visit.Span.{Span}
+use Rattle.keys.proofs.Rows.{in_front, by-numbers, by-headers, Clear, clears}
 use Rattle.image.proofs.Lent.{lent}
 
 -- an entry has 24 bytes
@@ -55,13 +58,17 @@ entry-written l at owner created expires h =
 
 -- ---- where the numbers refuse nothing
 
-pub fit : (n client key : ℕ) (small : Bool) → number_of (lowest (manager_rows n client key small)) ≡ 0
-    → (key < n) × (small ≡ false)
-fit n client key small z =
-    let a = clear _ _ (omega arith) (eq-eqb (number_of (lowest (manager_rows n client key small))) 0 z) in
+pub fit : (n client key : ℕ) (small : Bool) (ws : List Row)
+    → succeeds (lowest (manager_rows n client key small ++ ws)) ≡ true
+    → (key < n) × (small ≡ false) × (succeeds (lowest ws) ≡ true)
+fit n client key small ws z =
+    let a = clear _ _ (omega arith) z in
     let b = clear _ _ (omega arith) a.1 in
-    let c = clear _ [] (omega arith) b.1 in
-    (leb-false n key b.0, c.0)
+    let c = clear _ ws (omega arith) b.1 in
+    (leb-false n key b.0, c.0, c.1)
+
+pub below : (n client key : ℕ) (small : Bool) → Clear (manager_rows n client key small) → key < n
+below n client key small z = (fit n client key small [] (clears (manager_rows n client key small) z)).0
 
 -- ---- one block
 
@@ -101,52 +108,78 @@ module _ (img : List ℕ) (client key : ℕ) (buffer : List ℕ) where
   unfolding profile_report profile_rows reading_rows
   by_rows n k = rw k
 
-  -- ---- the outcomes
+  abbrev pub Tried : Result Span Report → Type 0
+  Tried r = r ≡ answered (profile_report img client key buffer) (span img key (reach img key))
+
+  -- ---- the tests, one after the other
+
+  pub tried_front : (r : Report) → front_of (lowest (reading_rows img client)) img ≡ Err r → Tried (Err r)
+  tried_front r e = rw (by_rows (n_of img) refl) (in_front (reading_rows img client) (asked (n_of img)) last img _ r e)
+
+  module _ (t : Trailer) (o : front_of (lowest (reading_rows img client)) img ≡ Ok t) where
+    its : n_of img ≡ t.n
+    its = ap (λ (x : Trailer). x.n) (told_ok (lowest (reading_rows img client)) (trailer_in img) t o).1
+
+    pub tried_asked : (r : Report) → answered (lowest (asked t.n)) (tt {0}) ≡ Err r → Tried (Err r)
+    tried_asked r e = rw (by_rows t.n its)
+        (by-numbers (reading_rows img client) (asked t.n) last img (reading_rising img client) t o _ r e)
+
+    module _ (z : Clear (asked t.n)) (m : ℕ) (e : m ≡ Run.reach t.n key) where
+      after : profile_report img client key buffer ≡ lowest last
+      unfolding rising
+      after = by_rows t.n its ∙ by-headers (reading_rows img client) (asked t.n) last img
+          (reading_rising img client) t o refl z
+
+      its-reach : m ≡ reach img key
+      its-reach = rw its e
+
+      pub tried_damaged : visited_good img key m ≡ false → Tried (Err Damaged)
+      unfolding lowest answered
+      tried_damaged g = sym (rw (after, rw its-reach at g))
+
+      pub tried_well : visited_good img key m ≡ true → Tried (Ok (record { n = t.n; from = key; visited = m }))
+      unfolding lowest answered
+      tried_well g = sym (rw (after, rw its-reach at g, its-reach, its))
+
+  -- ---- the answers
 
   module _ (t : Tariff) where
-    refuses : (r : Report) (n : ℕ) → n_of img ≡ n → Refused (reading_rows img client ++ (asked n ++ last)) r
+    pub refuses : (r : Report) → Tried (Err r)
         → ProfilePromise t img client key buffer (record { receipt = refusal t r; key = key; entries = 0 }) buffer
     unfolding profile_answer profile_buffer
-    refuses r n k w = let e = by_rows n k ∙ w.0 in record { answer = rw (e, w.1); given = rw (e, w.1) }
+    refuses r e =
+        let w = told_err (profile_report img client key buffer) _ r (sym e) in
+        let f : succeeds r ≡ false = rw w.1 at w.0 in
+        record { answer = rw (w.1, f); given = rw (w.1, f) }
 
-    pub refuses-front : (r : Report) → front_of (lowest (reading_rows img client)) img ≡ Shut r
-        → ProfilePromise t img client key buffer (record { receipt = refusal t r; key = key; entries = 0 }) buffer
-    refuses-front r e = refuses r (n_of img) refl (in_front (reading_rows img client) (asked (n_of img)) last img r e)
+  module _ (s : Span) (e : Tried (Ok s)) where
+    let_through : succeeds (profile_report img client key buffer) ≡ true
+    let_through = (told_ok (profile_report img client key buffer) _ s (sym e)).0
 
-    module _ (n : ℕ) (clock : Tick) (o : front_of (lowest (reading_rows img client)) img ≡ Open n clock) where
-      its : n_of img ≡ n
-      its = (told_open (lowest (reading_rows img client)) img n clock o).1
+    its_span : span img key (reach img key) ≡ s
+    its_span = (told_ok (profile_report img client key buffer) _ s (sym e)).1
 
-      pub refuses-asked : (r : Report) → r ≡ lowest (asked n) → 0 < number_of r
-          → ProfilePromise t img client key buffer (record { receipt = refusal t r; key = key; entries = 0 }) buffer
-      refuses-asked r e h = refuses r n its
-          (by-numbers (reading_rows img client) (asked n) last img (reading_rising img client) n clock o r e h)
+    pub room_for : Laid img s.n × (s.from + s.visited ≤ s.n) × (s.visited ≤ 64) × (1536 ≤ length buffer)
+    unfolding profile_report profile_rows
+    room_for =
+        let a = clear _ _ (omega arith) let_through in
+        let b = clear _ _ (omega arith) a.1 in
+        let f = fit (n_of img) client key (ltb (length buffer) 1536) last b.1 in
+        rw (← its_span) (
+          (known img (n_of img) (clock_of img) (not-false (trailer_right img) a.0) refl refl).laid,
+          omega arith,
+          omega arith,
+          ltb-false (length buffer) 1536 f.1,
+        )
 
-      module _ (m : ℕ) (z : number_of (lowest (asked n)) ≡ 0) (e : m ≡ Run.reach n key) where
-        after : profile_report img client key buffer ≡ lowest last
-        unfolding rising
-        after = by_rows n its ∙ by-headers (reading_rows img client) (asked n) last img
-            (reading_rising img client) n clock o refl z
-
-        its-reach : m ≡ reach img key
-        its-reach = rw its e
-
-        pub refuses-damaged : visited_good img key m ≡ false
-            → ProfilePromise t img client key buffer
-            (record { receipt = refusal t Damaged; key = key; entries = 0 }) buffer
-        unfolding lowest
-        refuses-damaged g = refuses Damaged n its (sym (by_rows n its) ∙ after ∙ rw (rw its-reach at g), refl)
-
-        pub enters : visited_good img key m ≡ true → (a : ProfileAnswer) (buffer' : List ℕ)
-            → a ≡ record {
-              receipt = receipt Success (profile_charge t);
-              key = key_at n (key + m);
-              entries = length (picked (used img) key m);
-            }
-            → buffer' ≡ over buffer 0 (rows (profile_row img) (picked (used img) key m))
-            → ProfilePromise t img client key buffer a buffer'
-        unfolding lowest profile_answer profile_buffer profiled
-        enters g a buffer' p q =
-            let v = rw its-reach at g in
-            let r : profile_report img client key buffer ≡ Success = after ∙ rw v in
-            record { answer = rw r (p ∙ rw (its-reach, its)); given = rw r (q ∙ rw its-reach) }
+    pub enters : (t : Tariff) (a : ProfileAnswer) (buffer' : List ℕ)
+        → a ≡ record {
+          receipt = receipt Success (profile_charge t);
+          key = key_at s.n (s.from + s.visited);
+          entries = length (picked (used img) s.from s.visited);
+        }
+        → buffer' ≡ over buffer 0 (rows (profile_row img) (picked (used img) s.from s.visited))
+        → ProfilePromise t img client key buffer a buffer'
+    unfolding profile_answer profile_buffer profiled
+    enters t a buffer' p q =
+        record { answer = rw let_through (p ∙ rw (← its_span)); given = rw let_through (q ∙ rw (← its_span)) }

@@ -1,43 +1,45 @@
--- GetIds, outcome by outcome.
+-- GetIds, answered by answered.
 -- Assumes nothing.
 use Prim.Native.Nat.{ℕ, ◌+◌, ◌*◌, ◌≤◌, ◌<◌}
-use mathlib.Core.Path.{◌≡◌, refl, sym, ◌∙◌}
+use mathlib.Core.Path.{◌≡◌, refl, sym, ◌∙◌, ap}
 use mathlib.Core.Bool.{true, false, not}
 use mathlib.Core.List.{List, [], ◌∷◌, ◌++◌}
 use native.Mathlib.Omega.{arith}
-use borrow.Author.Tests.{eq-eqb, leb-false, ltb-false}
+use borrow.Author.Tests.{leb-false, ltb-false, not-false}
 use lib.ListN.{length}
+use Rattle.std.specs.Prelude.{Result, Ok, Err, ok_or}
 use Rattle.word.specs.Word.{bytes_of}
 use Rattle.word.specs.Write.{over}
 use Rattle.word.proofs.Laws.{length-bytes_of, over_nil}
 use Rattle.run.specs.Run.{one, just, picked, visits, reach, rows}
 use Rattle.run.proofs.Laws.{one_yes, one_no, visits-le, picked-le}
 use Rattle.run.proofs.Turns.{row-yes, row-no}
-use Rattle.kinds.specs.Report.{number_of}
 use Rattle.kinds.specs.declared.GetIdsAnswer.{GetIdsAnswer}
 use Rattle.kinds.specs.declared.Report.{Report}
 use Rattle.kinds.specs.declared.Report.TheVariants.{Success, Damaged}
 use Rattle.kinds.specs.declared.Tick.{Tick}
 use Rattle.tariff.specs.Charges.{get_ids_charge}
 use Rattle.tariff.specs.declared.Tariff.{Tariff}
-use Rattle.promise.specs.Trailer.{n_of}
+use Rattle.promise.specs.Trailer.{n_of, clock_of, trailer_right}
 use Rattle.promise.specs.Header.{header_of, id_in}
 use Rattle.promise.specs.Counts.{owned_by}
-use Rattle.promise.specs.Refusals.{Row, row, lowest, receipt, refusal}
+use Rattle.promise.specs.Refusals.{Row, row, lowest, succeeds, receipt, refusal}
 use Rattle.promise.proofs.RefusalLaws.{rising}
 use Rattle.promise.proofs.RowLaws.{clear, count_fits}
 use Rattle.promise.specs.Keys.{key_at, visited_good}
 use Rattle.promise.specs.GetIds.{ids_visited, ids_named, id_row, get_ids_rows, get_ids_report, get_ids_answer}
 use Rattle.promise.specs.GetIds.{get_ids_buffer}
 use Rattle.promise.specs.GetIds.{GetIdsPromise}
+use Rattle.image.specs.Image.{trailer_in, Laid}
+use Rattle.image.proofs.Checks.{known}
 use Rattle.image.proofs.Tallies.{lent_header}
-use Rattle.front.specs.Rows.{reading_rows, front_of}
-use Rattle.front.specs.declared.Front.TheVariants.{Shut, Open}
-use Rattle.front.proofs.Fronts.{told_open, reading_rising}
+use Rattle.front.specs.Rows.{reading_rows, front_of, answered}
+use Rattle.image.specs.declared.trailer.Trailer.{Trailer}
+use Rattle.front.proofs.Fronts.{told_err, told_ok, reading_rising}
 use Rattle.keys.specs.Visit.{visited_of}
-use Rattle.keys.specs.Asked.{ids_rows}
-use Rattle.keys.specs.declared.visit.Visited.TheVariants.{Good, Bad}
-use Rattle.keys.proofs.Rows.{Refused, in_front, by-numbers, by-headers}
+use Rattle.keys.specs.Asked.{ids_rows, span}
+use Rattle.keys.specs.declared.visit.Span.{Span}
+use Rattle.keys.proofs.Rows.{in_front, by-numbers, by-headers, Clear, clears}
 use Rattle.image.proofs.Lent.{lent}
 use Rattle.keys.proofs.Visits.{told_bad, told-good}
 
@@ -54,11 +56,12 @@ pub record Fits (n key count room : ℕ) : Type 0 where
   pub few : count ≤ 64
   pub fits : 8 * count ≤ room
 
-pub fit : (n key count room : ℕ) → number_of (lowest (ids_rows n key count room)) ≡ 0 → Fits n key count room
-fit n key count room z =
-    let a = clear _ _ (omega arith) (eq-eqb (number_of (lowest (ids_rows n key count room))) 0 z) in
+pub fit : (n key count room : ℕ) (ws : List Row) → succeeds (lowest (ids_rows n key count room ++ ws)) ≡ true
+    → Fits n key count room
+fit n key count room ws z =
+    let a = clear _ _ (omega arith) z in
     let b = clear _ _ (omega arith) a.1 in
-    let c = clear _ [] (omega arith) b.1 in
+    let c = clear _ ws (omega arith) b.1 in
     let k = count_fits count b.0 in
     record {
       below = leb-false n key a.0;
@@ -103,70 +106,93 @@ module _ (img : List ℕ) (client key count : ℕ) (ids : List ℕ) where
   unfolding get_ids_report get_ids_rows reading_rows
   by_rows n k = rw k
 
-  -- ---- the outcomes
+  abbrev pub Tried : Result Span Report → Type 0
+  Tried r = r ≡ answered (get_ids_report img client key count ids) (span img key (ids_visited img client key count))
+
+  -- ---- the tests, one after the other
+
+  pub tried_front : (r : Report) → front_of (lowest (reading_rows img client)) img ≡ Err r → Tried (Err r)
+  tried_front r e = rw (by_rows (n_of img) refl) (in_front (reading_rows img client) (asked (n_of img)) last img _ r e)
+
+  pub below : (n : ℕ) → Clear (asked n) → key < n
+  below n z = (fit n key count (length ids) [] (clears (asked n) z)).below
+
+  module _ (t : Trailer) (o : front_of (lowest (reading_rows img client)) img ≡ Ok t) where
+    its : n_of img ≡ t.n
+    its = ap (λ (x : Trailer). x.n) (told_ok (lowest (reading_rows img client)) (trailer_in img) t o).1
+
+    pub tried_asked : (r : Report) → answered (lowest (asked t.n)) (tt {0}) ≡ Err r → Tried (Err r)
+    tried_asked r e = rw (by_rows t.n its)
+        (by-numbers (reading_rows img client) (asked t.n) last img (reading_rising img client) t o _ r e)
+
+    module _ (z : Clear (asked t.n)) (m : ℕ) (e : m ≡ reach t.n key) where
+      after : get_ids_report img client key count ids ≡ lowest last
+      unfolding rising
+      after = by_rows t.n its ∙ by-headers (reading_rows img client) (asked t.n) last img
+          (reading_rising img client) t o refl z
+
+      its-visited : visits (owned_by img client) m count key ≡ ids_visited img client key count
+      unfolding ids_visited
+      its-visited = rw (e, its)
+
+      pub tried_damaged : (r : Report)
+          → ok_or (visited_of img key (visits (owned_by img client) m count key)) Damaged ≡ Err r → Tried (Err r)
+      unfolding lowest answered
+      tried_damaged r f =
+          let g = told_bad img key (ids_visited img client key count) r (rw its-visited at f) in
+          sym (rw (after, g.0, g.1))
+
+      pub tried_well : (visited : ℕ)
+          → ok_or (visited_of img key (visits (owned_by img client) m count key)) Damaged ≡ Ok visited
+          → Tried (Ok (record { n = t.n; from = key; visited = visited }))
+      unfolding lowest answered
+      tried_well visited f =
+          let g = told-good img key (ids_visited img client key count) visited (rw its-visited at f) in
+          sym (rw (after, g.0, g.1, its))
+
+  -- ---- the answers
 
   module _ (t : Tariff) where
-    refuses : (r : Report) (n : ℕ) → n_of img ≡ n → Refused (reading_rows img client ++ (asked n ++ last)) r
+    pub refuses : (r : Report) → Tried (Err r)
         → GetIdsPromise t img client key count ids (record { receipt = refusal t r; key = key; entries = 0 }) ids
     unfolding get_ids_answer get_ids_buffer
-    refuses r n k w = let e = by_rows n k ∙ w.0 in record { answer = rw (e, w.1); given = rw (e, w.1) }
+    refuses r e =
+        let w = told_err (get_ids_report img client key count ids) _ r (sym e) in
+        let f : succeeds r ≡ false = rw w.1 at w.0 in
+        record { answer = rw (w.1, f); given = rw (w.1, f) }
 
-    pub refuses-front : (r : Report) → front_of (lowest (reading_rows img client)) img ≡ Shut r
-        → GetIdsPromise t img client key count ids (record { receipt = refusal t r; key = key; entries = 0 }) ids
-    refuses-front r e = refuses r (n_of img) refl (in_front (reading_rows img client) (asked (n_of img)) last img r e)
+  module _ (s : Span) (e : Tried (Ok s)) where
+    let_through : succeeds (get_ids_report img client key count ids) ≡ true
+    let_through = (told_ok (get_ids_report img client key count ids) _ s (sym e)).0
 
-    module _ (n : ℕ) (clock : Tick) (o : front_of (lowest (reading_rows img client)) img ≡ Open n clock) where
-      its : n_of img ≡ n
-      its = (told_open (lowest (reading_rows img client)) img n clock o).1
+    its_span : span img key (ids_visited img client key count) ≡ s
+    its_span = (told_ok (get_ids_report img client key count ids) _ s (sym e)).1
 
-      pub refuses-asked : (r : Report) → r ≡ lowest (asked n) → 0 < number_of r
-          → GetIdsPromise t img client key count ids (record { receipt = refusal t r; key = key; entries = 0 }) ids
-      refuses-asked r e h = refuses r n its
-          (by-numbers (reading_rows img client) (asked n) last img (reading_rising img client) n clock o r e h)
+    pub room_for : Laid img s.n × (s.from + s.visited ≤ s.n)
+        × (length (picked (owned_by img client) s.from s.visited) ≤ 64)
+        × (8 * length (picked (owned_by img client) s.from s.visited) ≤ length ids)
+    unfolding get_ids_report get_ids_rows ids_visited
+    room_for =
+        let a = clear _ _ (omega arith) let_through in
+        let b = clear _ _ (omega arith) a.1 in
+        let f = fit (n_of img) key count (length ids) last b.1 in
+        let p = owned_by img client in
+        let m = reach (n_of img) key in
+        rw (← its_span) (
+          (known img (n_of img) (clock_of img) (not-false (trailer_right img) a.0) refl refl).laid,
+          omega (arith, visits-le p m count key),
+          omega (arith, picked-le p m count key),
+          omega (arith, picked-le p m count key),
+        )
 
-      module _ (m : ℕ) (z : number_of (lowest (asked n)) ≡ 0) (e : m ≡ reach n key) where
-        after : get_ids_report img client key count ids ≡ lowest last
-        unfolding rising
-        after = by_rows n its ∙ by-headers (reading_rows img client) (asked n) last img
-            (reading_rising img client) n clock o refl z
-
-        its-visited : visits (owned_by img client) m count key ≡ ids_visited img client key count
-        unfolding ids_visited
-        its-visited = rw (e, its)
-
-        pub refuses-damaged : visited_of img key (visits (owned_by img client) m count key) ≡ Bad
-            → GetIdsPromise t img client key count ids
-            (record { receipt = refusal t Damaged; key = key; entries = 0 }) ids
-        unfolding lowest
-        refuses-damaged f =
-            let g = told_bad img key (ids_visited img client key count) (rw its-visited at f) in
-            refuses Damaged n its (sym (by_rows n its) ∙ after ∙ rw g, refl)
-
-        module _ (visited : ℕ) (f : visited_of img key (visits (owned_by img client) m count key) ≡ Good visited) where
-          pub room_for : (key + visited ≤ n) × (length (picked (owned_by img client) key visited) ≤ 64)
-              × (8 * length (picked (owned_by img client) key visited) ≤ length ids)
-          room_for =
-              let g = told-good img key (visits (owned_by img client) m count key) visited f in
-              let a = fit n key count (length ids) z in
-              rw g.1 (
-                omega (arith, visits-le (owned_by img client) m count key),
-                omega
-                    (arith, picked-le (owned_by img client) m count key),
-                omega
-                    (arith, picked-le (owned_by img client) m count key),
-              )
-
-          pub lists : (a : GetIdsAnswer) (ids' : List ℕ)
-              → a ≡ record {
-                receipt = receipt Success (get_ids_charge t);
-                key = key_at n (key + visited);
-                entries = length (picked (owned_by img client) key visited);
-              }
-              → ids' ≡ over ids 0 (rows (id_row img) (picked (owned_by img client) key visited))
-              → GetIdsPromise t img client key count ids a ids'
-          unfolding lowest get_ids_answer get_ids_buffer ids_named
-          lists a ids' p q =
-              let v = rw its-visited at f in
-              let g = told-good img key (ids_visited img client key count) visited v in
-              let r : get_ids_report img client key count ids ≡ Success = after ∙ rw g.0 in
-              record { answer = rw (r, its, p, g.1); given = rw (r, q, g.1) }
+    pub lists : (t : Tariff) (a : GetIdsAnswer) (ids' : List ℕ)
+        → a ≡ record {
+          receipt = receipt Success (get_ids_charge t);
+          key = key_at s.n (s.from + s.visited);
+          entries = length (picked (owned_by img client) s.from s.visited);
+        }
+        → ids' ≡ over ids 0 (rows (id_row img) (picked (owned_by img client) s.from s.visited))
+        → GetIdsPromise t img client key count ids a ids'
+    unfolding get_ids_answer get_ids_buffer ids_named
+    lists t a ids' p q =
+        record { answer = rw let_through (p ∙ rw (← its_span)); given = rw let_through (q ∙ rw (← its_span)) }

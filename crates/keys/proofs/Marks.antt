@@ -1,64 +1,101 @@
 -- Marks and tallies: what one header adds, and a pass over the marks, turn by turn.
 -- Assumes nothing.
-use Prim.Native.Nat.{ℕ, ◌+◌, ◌-◌, ◌≤◌, ◌<◌, zero, suc}
+use Prim.Native.Nat.{ℕ, ◌+◌, ◌-◌, ◌≤◌, ◌<◌}
 use mathlib.Core.Path.{◌≡◌, refl, sym, ap, ◌∙◌}
-use mathlib.Core.Bool.{Bool, true, false, cond, and-false}
+use mathlib.Core.Bool.{Bool, true, false, cond, and-false, ◌&&◌}
 use mathlib.Core.List.{List, [], ◌∷◌}
-use mathlib.Core.Logic.{⊎_elim}
 use native.Mathlib.Decide.{ℕ_discrete}
 use native.Mathlib.Omega.{arith}
-use borrow.Author.Tests.{eq-eqb, ne_eqb, lt-ltb, le-ltb, eqb-true}
-use lib.Dec.{eqb, leb, ltb}
-use lib.ListN.{length, get_or, set, length-append}
+use borrow.Author.Tests.{eq-eqb, ne_eqb, lt-ltb, le-ltb}
+use lib.Dec.{eqb, ltb}
+use lib.ListN.{length, get_or, set}
 use lib.Seq.{get_or-set_same, get_or-set_other}
-use Rattle.plain.specs.Numbers.{lt_or_le}
-use Rattle.plain.specs.Tests.{when}
+use Rattle.std.specs.Prelude.{Some, None, is_some, IfSome}
+use Rattle.kinds.specs.Kinds.{user}
+use Rattle.kinds.specs.declared.User.{User}
+use Rattle.plain.specs.Tests.{when, both}
 use Rattle.word.specs.Write.{puts}
-use Rattle.run.specs.Run.{one, just, picked, all_of, each}
-use Rattle.run.proofs.Laws.{picked_few, all_same, picked_none, length-just}
+use Rattle.run.specs.Run.{one, just, picked, each}
+use Rattle.run.proofs.Laws.{picked_few, picked_none, all-each}
 use Rattle.run.proofs.Turns.{count_turn, count_end, each_turn, each-yes, each-no}
 use Rattle.promise.specs.Trailer.{clock_set}
 use Rattle.promise.specs.Header.{header_of, is_used, owner_of, expires_of}
-use Rattle.promise.specs.Counts.{count_of}
+use Rattle.promise.specs.Keys.{visited_good}
+use Rattle.promise.specs.Map.{good}
+use Rattle.promise.proofs.HeaderLaws.{client}
 use Rattle.promise.specs.Scavenge.{expired}
 use Rattle.image.proofs.Tallies.{lent_header}
-use Rattle.keys.specs.Marks.{mark_of, marked, marks_of, raised_at, has_count, freed, removed_by, owes, Tallies}
+use Rattle.keys.specs.Marks.{loser_of, loses, marked, raised_by, freed, removed_by, owes, Marks, Tallies}
 use Rattle.image.proofs.Lent.{lent}
 use Rattle.run.proofs.Tally.{picked_mono, picked_same}
 
--- ---- the mark of a header
+-- ---- the client that loses a block
 
 module _ (img : List ℕ) (time b : ℕ) where
-  pub mark-unused : is_used (lent img b) ≡ false → 64 ≡ mark_of img time b
-  unfolding mark_of expired
-  mark-unused f = sym (rw (rw (lent_header img b) at f))
+  pub loser-unused : is_used (lent img b) ≡ false → None ≡ loser_of img time b
+  unfolding loser_of expired
+  loser-unused f = sym (rw (rw (lent_header img b) at f))
 
-  pub mark_stays : (expires : ℕ) → expires ≡ expires_of (lent img b) → time ≤ expires → 64 ≡ mark_of img time b
-  unfolding mark_of expired
-  mark_stays expires e h =
+  pub loser_stays : (expires : ℕ) → expires ≡ expires_of (lent img b) → time ≤ expires → None ≡ loser_of img time b
+  unfolding loser_of expired
+  loser_stays expires e h =
       let g : ltb (expires_of (header_of img b)) time
       ≡ false = le-ltb (expires_of (header_of img b)) time (omega (arith, rw (lent_header img b) at e)) in
       sym (rw (g, and-false (is_used (header_of img b))))
 
-  pub mark_goes : is_used (lent img b) ≡ true → (expires : ℕ) → expires ≡ expires_of (lent img b) → expires < time
-      → (owner : ℕ) → owner ≡ owner_of (lent img b) → owner ≡ mark_of img time b
-  unfolding mark_of expired
-  mark_goes f expires e h owner o =
+  pub loser_goes : is_used (lent img b) ≡ true → (expires : ℕ) → expires ≡ expires_of (lent img b) → expires < time
+      → (owner : User) → owner ≡ user (owner_of (lent img b)) → Some owner ≡ loser_of img time b
+  unfolding loser_of expired
+  loser_goes f expires e h owner o =
       let g : ltb (expires_of (header_of img b)) time
       ≡ true = lt-ltb (expires_of (header_of img b)) time (omega (arith, rw (lent_header img b) at e)) in
-      sym (rw (rw (lent_header img b) at f, g) (sym (rw (lent_header img b) at o)))
+      let p = rw (lent_header img b) at o in
+      sym (rw (rw (lent_header img b) at f, g) (ap (λ (x : User). Some x) (sym p)))
+
+  pub is_loser : is_some (loser_of img time b) ≡ expired img time b
+  unfolding loser_of
+  is_loser = go (expired img time b)
+    where
+      go : (t : Bool) → is_some (when t (Some (user (owner_of (header_of img b)))) None) ≡ t
+      go true = refl
+      go false = refl
+
+  -- its owner is a client
+  abbrev pub Client : Type 0
+  Client = expired img time b ≡ true → owner_of (header_of img b) < 64
+
+  pub client_loses : Client → IfSome (loser_of img time b) (λ u. u.0 < 64)
+  unfolding loser_of
+  client_loses h = go (expired img time b) h
+    where
+      go : (t : Bool) → (t ≡ true → owner_of (header_of img b) < 64)
+          → IfSome (when t (Some (user (owner_of (header_of img b)))) None) (λ u. u.0 < 64)
+      go true f = f refl
+      go false f = tt
+
+-- so it is where all headers visited are good
+pub owner_below : (img : List ℕ) (time from k : ℕ) → visited_good img from k ≡ true → (b : ℕ) → from ≤ b → b < from + k
+    → Client img time b
+unfolding expired
+owner_below img time from k g b l u e =
+    client img b (all-each (good img) from k b g l u)
+    (both (is_used (header_of img b)) (ltb (expires_of (header_of img b)) time) e).0
 
 -- ---- marks made one after the other
 
-pub marked_on : (img : List ℕ) (time from i : ℕ) (marks : List ℕ) (m : ℕ) → i < length marks
-    → m ≡ mark_of img time (from + i)
-    → ((j : ℕ) → j < i → get_or marks j 0 ≡ mark_of img time (from + j)) → (j : ℕ) → j < i + 1
-    → get_or (set marks i m) j 0 ≡ mark_of img time (from + j)
+pub marked_on : (img : List ℕ) (time from i : ℕ) (marks : List Bool) (m : Bool) → i < length marks
+    → m ≡ expired img time (from + i)
+    → ((j : ℕ) → j < i → get_or marks j false ≡ expired img time (from + j)) → (j : ℕ) → j < i + 1
+    → get_or (set marks i m) j false ≡ expired img time (from + j)
 marked_on img time from i marks m l e h j k = go (ℕ_discrete j i)
   where
-    go : Dec (j ≡ i) → get_or (set marks i m) j 0 ≡ mark_of img time (from + j)
-    go (yes q) = rw q (get_or-set_same marks i m 0 l ∙ e)
-    go (no d) = get_or-set_other marks i j m 0 d ∙ h j (omega arith)
+    go : Dec (j ≡ i) → get_or (set marks i m) j false ≡ expired img time (from + j)
+    go (yes q) = rw q (get_or-set_same marks i m false l ∙ e)
+    go (no d) = get_or-set_other marks i j m false d ∙ h j (omega arith)
+
+pub marked_is : (img : List ℕ) (time from k : ℕ) (marks : List Bool) → Marks img time from k marks → (b : ℕ)
+    → from ≤ b → b < from + k → marked marks from b ≡ expired img time b
+marked_is img time from k marks f b l u = f (b - from) (omega arith) ∙ ap (λ (x : ℕ). expired img time x) (omega arith)
 
 -- ---- a tally with one more at x
 
@@ -70,56 +107,46 @@ raised t x u h = go (ℕ_discrete u x)
     go (yes q) = rw (q, eq-eqb x x refl) (get_or-set_same t x (get_or t x 0 + 1) 0 h)
     go (no d) = rw (ne_eqb x u (λ r. d (sym r))) (get_or-set_other t x u (get_or t x 0 + 1) 0 d ∙ omega arith)
 
--- what one mark adds
-added : (mark : ℕ) (tally : List ℕ) (u : ℕ) → length tally ≡ 64 → u < 64
-    → get_or (when (ltb mark 64) (raised_at mark tally) tally) u 0 ≡ get_or tally u 0 + cond (eqb mark u) 1 0
-added mark tally u l h =
-    ⊎_elim
-    (λ (g : mark < 64). rw (lt-ltb mark 64 g) (raised tally mark u (omega arith)))
-    (λ (g : 64 ≤ mark). rw (le-ltb mark 64 g, ne_eqb mark u (λ q. omega arith)) (omega arith))
-    (lt_or_le mark 64)
+-- what one block adds
+added : (img : List ℕ) (time b : ℕ) (tally : List ℕ) (u : ℕ) → length tally ≡ 64 → Client img time b
+    → get_or (raised_by (loser_of img time b) tally) u 0 ≡ get_or tally u 0 + cond (loses img time u b) 1 0
+unfolding loser_of
+added img time b tally u l h = go (expired img time b) h
+  where
+    go : (t : Bool) → (t ≡ true → owner_of (header_of img b) < 64)
+        → get_or (raised_by (when t (Some (user (owner_of (header_of img b)))) None) tally) u 0
+        ≡ get_or tally u 0 + cond (t && eqb (owner_of (header_of img b)) u) 1 0
+    go true f = raised tally (owner_of (header_of img b)) u (omega (arith, f refl))
+    go false f = omega arith
 
--- the mark at place i is `mark i`: the tally of the first i marks, with those of k that are left, is that of all k
-module _ (mark : ℕ → ℕ) (k : ℕ) where
+-- the tally of the first i blocks, with those of k that are left, is that of all k
+module _ (img : List ℕ) (time from k : ℕ) where
   abbrev pub Tallied : (tally : List ℕ) (i : ℕ) → Type 0
   Tallied tally i = (u : ℕ) → u < 64
-      → get_or tally u 0 + length (picked (λ i. eqb (mark i) u) i (k - i)) ≡ length (picked (λ i. eqb (mark i) u) 0 k)
+      → get_or tally u 0 + length (picked (loses img time u) (from + i) (k - i))
+      ≡ length (picked (loses img time u) from k)
 
   pub tally_begun : (tally : List ℕ) → ((u : ℕ) → get_or tally u 0 ≡ 0) → Tallied tally 0
-  tally_begun tally z u h = let e : k - 0 ≡ k = omega arith in rw e (omega (arith, z u))
+  tally_begun tally z u h =
+      let e : k - 0 ≡ k = omega arith in
+      let f : from + 0 ≡ from = omega arith in
+      rw (e, f) (omega (arith, z u))
 
-  pub tally_turn : (tally : List ℕ) (i m : ℕ) → i < k → m ≡ mark i → length tally ≡ 64 → Tallied tally i
-      → Tallied (when (ltb m 64) (raised_at m tally) tally) (i + 1)
+  pub tally_turn : (tally : List ℕ) (i : ℕ) → i < k → length tally ≡ 64 → Client img time (from + i) → Tallied tally i
+      → Tallied (raised_by (loser_of img time (from + i)) tally) (i + 1)
   unfolding one
-  tally_turn tally i m h e l t u g =
+  tally_turn tally i h l o t u g =
       let z : k - i - 1 ≡ k - (i + 1) = omega arith in
-      let c = rw z at (count_turn (λ i. eqb (mark i) u) i (k - i) (omega arith)) in
-      rw e (omega (arith, added (mark i) tally u l g, c, t u g))
+      let y : from + i + 1 ≡ from + (i + 1) = omega arith in
+      let c = rw (z, y) at (count_turn (loses img time u) (from + i) (k - i) (omega arith)) in
+      omega (arith, added img time (from + i) tally u l o, c, t u g)
 
-  pub tally_end : (tally marks : List ℕ) (i : ℕ) → k ≤ i → ((j : ℕ) → j < i → get_or marks j 0 ≡ mark j)
-      → Tallied tally i → Tallies marks k tally
-  tally_end tally marks i h m t u g =
-      let same = picked_same (λ j. eqb (get_or marks j 0) u) (λ j. eqb (mark j) u) 0 k
-      (λ j l b. ap (λ (x : ℕ). eqb x u) (m j (omega arith))) in
-      omega (arith, count_end (λ i. eqb (mark i) u) i (k - i) (omega arith), t u g, ap length same)
+  pub tally_end : (tally : List ℕ) (i : ℕ) → k ≤ i → Tallied tally i → Tallies img time from k tally
+  tally_end tally i h t u g =
+      omega (arith, count_end (loses img time u) (from + i) (k - i) (omega arith), t u g)
 
   pub tally_few : (tally : List ℕ) (i : ℕ) → Tallied tally i → (u : ℕ) → u < 64 → get_or tally u 0 ≤ k
-  tally_few tally i t u g = omega (arith, t u g, picked_few (λ i. eqb (mark i) u) 0 k)
-
-pub by_tally : (n : ℕ) (img tally marks : List ℕ) (k : ℕ) → ((u : ℕ) → u < 64 → get_or tally u 0 ≡ marks_of marks k u)
-    → all_of (has_count n img tally) 0 64 ≡ all_of (λ u. leb (marks_of marks k u) (count_of n img u)) 0 64
-by_tally n img tally marks k t =
-    all_same (has_count n img tally) (λ u. leb (marks_of marks k u) (count_of n img u)) 0 64
-    (λ u l h. ap (λ (x : ℕ). leb x (count_of n img u)) (t u h))
-
--- ---- one mark
-
-module _ (mark : ℕ) (x y : List ℕ) where
-  pub goes : mark < 64 → (◌≡◌ {A = ℕ} 1 (cond (ltb mark 64) 1 0)) × (y ≡ when (ltb mark 64) y x)
-  goes h = let e = lt-ltb mark 64 h in (sym (rw e), sym (rw e))
-
-  pub stays : 64 ≤ mark → (◌≡◌ {A = ℕ} 0 (cond (ltb mark 64) 1 0)) × (x ≡ when (ltb mark 64) y x)
-  stays h = let e = le-ltb mark 64 h in (sym (rw e), sym (rw e))
+  tally_few tally i t u g = omega (arith, t u g, picked_few (loses img time u) from k)
 
 -- ---- a pass over the marks
 
@@ -137,53 +164,29 @@ pub pass_count : (p : ℕ → Bool) (b k : ℕ) → 0 < k
 unfolding one
 pass_count p b k h = count_turn p b k h
 
--- ---- runs
-
--- as many pass in a run as in the same run from another number
-one_at : (q : ℕ → Bool) (a b : ℕ) → one (λ i. q (a + i)) b ≡ one q (a + b)
-unfolding one
-one_at q a b = refl
-
-pub moved : (q : ℕ → Bool) (a b k : ℕ) → length (picked (λ i. q (a + i)) b k) ≡ length (picked q (a + b) k)
-unfolding picked
-moved q a b zero = refl
-moved q a b (suc k) =
-    let e : a + (b + 1) ≡ a + b + 1 = omega arith in
-    let r = rw e at (moved q a (b + 1) k) in
-    rw (
-      length-append (just (λ i. q (a + i)) b),
-      length-append (just q (a + b)),
-      length-just (λ i. q (a + i)) b,
-      length-just q (a + b),
-      one_at q a b,
-      r,
-    )
-
 -- where no block is to go, nobody owes
-none_owed : (marks tally : List ℕ) (from k : ℕ) → Tallies marks k tally → length (picked (marked marks from) from k) ≡ 0
+none_owed : (img : List ℕ) (time from k : ℕ) (marks : List Bool) (tally : List ℕ) → Marks img time from k marks
+    → Tallies img time from k tally → length (picked (marked marks from) from k) ≡ 0
     → picked (owes tally) 0 64 ≡ []
-none_owed marks tally from k t e = picked_none (owes tally) 0 64
-    (λ u l h. le-ltb 0 (get_or tally u 0) (omega (arith, t u h, few u h)))
+none_owed img time from k marks tally f t e = picked_none (owes tally) 0 64
+    (λ u l h. le-ltb 0 (get_or tally u 0) (omega (arith, t u h, few u)))
   where
-    at : (x : ℕ) → from + x - from ≡ x
-    at x = omega arith
-
-    few : (u : ℕ) → u < 64 → marks_of marks k u ≤ 0
-    few u h =
-        let z : from + 0 ≡ from = omega arith in
-        let m = rw z at (moved (marked marks from) from 0 k) in
+    few : (u : ℕ) → length (picked (loses img time u) from k) ≤ 0
+    few u =
+        let same = picked_same (marked marks from) (expired img time) from k (marked_is img time from k marks f) in
         omega (
           arith,
           e,
-          m,
-          picked_mono (λ i. eqb (get_or marks i 0) u) (λ i. marked marks from (from + i)) 0 k
-              (λ x q. rw (at x, eqb-true (get_or marks x 0) u q) (lt-ltb u 64 h)),
+          ap length same,
+          picked_mono (loses img time u) (expired img time) from k
+              (λ x q. (both (expired img time x) (eqb (owner_of (header_of img x)) u) q).0),
         )
 
 -- and the counts stay
-pub removed-none : (n time : ℕ) (marks tally : List ℕ) (from k : ℕ) (img : List ℕ) → Tallies marks k tally
+pub removed-none : (n time : ℕ) (marks : List Bool) (tally : List ℕ) (from k : ℕ) (img : List ℕ)
+    → Marks img time from k marks → Tallies img time from k tally
     → length (picked (marked marks from) from k) ≡ 0
     → each (freed n) (puts img (clock_set n time ∷ [])) (picked (marked marks from) from k)
     ≡ removed_by n time marks tally from k img
 unfolding each
-removed-none n time marks tally from k img t e = rw (none_owed marks tally from k t e)
+removed-none n time marks tally from k img f t e = rw (none_owed img time from k marks tally f t e)

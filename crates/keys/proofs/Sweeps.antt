@@ -1,50 +1,51 @@
--- Scavenge, outcome by outcome: what the marks say is what the promise says.
+-- Scavenge, answered by answered: what the marks say is what the promise says.
 -- Assumes nothing.
-use Prim.Native.Nat.{ℕ, ◌+◌, ◌-◌, ◌≤◌, ◌<◌}
+use Prim.Native.Nat.{ℕ, ◌+◌, ◌≤◌, ◌<◌}
 use mathlib.Core.Path.{◌≡◌, refl, sym, ap, ◌∙◌}
-use mathlib.Core.Bool.{Bool, true, false, not, ◌&&◌}
+use mathlib.Core.Bool.{Bool, true, false, not}
 use mathlib.Core.List.{List, [], ◌∷◌, ◌++◌, map}
 use native.Mathlib.Omega.{arith}
-use borrow.Author.Tests.{ne_eqb, lt-ltb, not-true, not-false}
-use lib.Dec.{eqb, leb, ltb}
+use borrow.Author.Tests.{not-true, not-false, leb-false}
+use lib.Dec.{leb}
 use lib.ListN.{length, get_or}
-use Rattle.plain.specs.Tests.{both, neither}
+use Rattle.plain.specs.Tests.{neither}
 use Rattle.word.specs.Write.{puts}
 use Rattle.run.specs.Run as Run
 use Rattle.run.specs.Run.{picked, all_of, each, Every, times}
-use Rattle.run.proofs.Laws.{all-each, all_same, every_picked}
+use Rattle.run.proofs.Laws.{all_same, every_picked}
 use Rattle.run.proofs.Tally.{picked_same, times-picked}
-use Rattle.kinds.specs.Report.{number_of}
 use Rattle.kinds.specs.declared.ScavengeAnswer.{ScavengeAnswer}
 use Rattle.kinds.specs.declared.Report.{Report}
 use Rattle.kinds.specs.declared.Report.TheVariants.{Success, Damaged}
 use Rattle.kinds.specs.declared.Tick.{Tick}
 use Rattle.tariff.specs.Charges.{scavenge_charge}
 use Rattle.tariff.specs.declared.Tariff.{Tariff}
-use Rattle.promise.specs.Trailer.{n_of, clock_set}
-use Rattle.promise.specs.Header.{header_of, is_used, owner_of, expires_of}
-use Rattle.promise.proofs.HeaderLaws.{client}
+use Rattle.promise.specs.Trailer.{n_of, clock_of, trailer_right, clock_set}
+use Rattle.promise.specs.Header.{header_of, owner_of}
 use Rattle.promise.proofs.ScavengeLaws.{free_in_turn}
-use Rattle.promise.specs.Map.{good}
 use Rattle.promise.specs.Counts.{count_of}
-use Rattle.promise.specs.Refusals.{Row, row, lowest, receipt, refusal}
+use Rattle.promise.specs.Refusals.{Row, row, lowest, succeeds, receipt, refusal}
 use Rattle.promise.proofs.RefusalLaws.{rising}
 use Rattle.promise.specs.Keys.{reach, key_at, visited_good}
 use Rattle.promise.specs.Scavenge.{expired, gone, gone_of, scavenge_damaged, scavenge_rows, scavenge_report}
 use Rattle.promise.specs.Scavenge.{scavenged, scavenge_image, scavenge_answer, ScavengePromise, count_lowered}
-use Rattle.front.specs.Rows.{reading_rows, time_rows, changing_rows, front_of}
-use Rattle.front.specs.declared.Front.TheVariants.{Shut, Open}
-use Rattle.front.proofs.Fronts.{told_open, changing_rising, no_expiry}
-use Rattle.keys.specs.Marks.{mark_of, marked, marks_of, freed, removed_by, Marks, Tallies}
-use Rattle.keys.specs.Asked.{manager_rows}
-use Rattle.keys.proofs.Rows.{Refused, in_front, by-numbers, by-headers}
-use Rattle.keys.proofs.Marks.{moved}
+use Rattle.front.specs.Rows.{reading_rows, time_rows, changing_rows, front_of, answered}
+use Rattle.image.specs.declared.trailer.Trailer.{Trailer}
+use Rattle.front.proofs.Fronts.{told_err, told_ok, changing_rising, no_expiry}
+use Rattle.keys.specs.Marks.{loses, marked, has_count, freed, removed_by, Marks, Tallies}
+use Rattle.keys.specs.Asked.{manager_rows, span}
+use Rattle.keys.specs.declared.visit.Span.{Span}
+use Rattle.keys.proofs.Rows.{in_front, by-numbers, by-headers, Clear}
+use Rattle.std.specs.Prelude.{Result, Ok, Err}
+use Rattle.image.proofs.Checks.{known}
+use Rattle.promise.proofs.RowLaws.{clear}
+use Rattle.keys.proofs.Marks.{marked_is, owner_below}
 use Rattle.keys.proofs.Lowers.{low, low_agree, lowers, swept}
 use Rattle.word.specs.Word.{Bytes, bytes_of}
 use Rattle.word.proofs.Laws.{sizes, length_over}
 use Rattle.promise.proofs.TrailerLaws.{Number}
 use Rattle.promise.specs.Layout.{size_of, trailer_at}
-use Rattle.image.specs.Image.{Laid}
+use Rattle.image.specs.Image.{trailer_in, Laid}
 
 -- ---- runs
 
@@ -66,101 +67,60 @@ twice false = refl
 
 -- ---- what the marks say, where all visited headers are good
 
-module _ (img : List ℕ) (time from k : ℕ) (marks : List ℕ) (f : Marks img time from k marks)
-    (g : visited_good img from k
-    ≡ true) where
-  mark-at : (b : ℕ) → from ≤ b → b < from + k → get_or marks (b - from) 0 ≡ mark_of img time b
-  mark-at b l u = f (b - from) (omega arith) ∙ ap (λ (x : ℕ). mark_of img time x) (omega arith)
-
-  owner_below : (b : ℕ) → from ≤ b → b < from + k → expired img time b ≡ true → owner_of (header_of img b) < 64
-  unfolding expired
-  owner_below b l u e =
-      client img b (all-each (good img) from k b g l u)
-      (both (is_used (header_of img b)) (ltb (expires_of (header_of img b)) time) e).0
-
-  marked_is : (b : ℕ) → from ≤ b → b < from + k → marked marks from b ≡ expired img time b
-  unfolding mark_of
-  marked_is b l u = ap (λ (x : ℕ). ltb x 64) (mark-at b l u) ∙ go (expired img time b) refl
-    where
-      go : (t : Bool) → expired img time b ≡ t → ltb (mark_of img time b) 64 ≡ expired img time b
-      go true e = rw e (lt-ltb (owner_of (header_of img b)) 64 (owner_below b l u e))
-      go false e = rw e
-
-  owner_is : (b : ℕ) → from ≤ b → b < from + k → expired img time b ≡ true
-      → get_or marks (b - from) 0 ≡ owner_of (header_of img b)
-  unfolding mark_of
-  owner_is b l u e = mark-at b l u ∙ rw e
-
-  its_mark : (u b : ℕ) → u < 64 → eqb (mark_of img time b) u
-      ≡ (expired img time b && eqb (owner_of (header_of img b)) u)
-  unfolding mark_of
-  its_mark u b h = go (expired img time b) refl
-    where
-      go : (t : Bool) → expired img time b ≡ t
-          → eqb (mark_of img time b) u ≡ (expired img time b && eqb (owner_of (header_of img b)) u)
-      go true e = rw e
-      go false e = rw e (ne_eqb 64 u (λ q. omega arith))
-
-  abbrev gone_his : ℕ → ℕ → Bool
-  gone_his u b = expired img time b && eqb (owner_of (header_of img b)) u
-
-  marks-of : (u : ℕ) → u < 64 → marks_of marks k u ≡ length (picked (gone_his u) from k)
-  marks-of u h =
-      let z : from + 0 ≡ from = omega arith in
-      ap length (picked_same (λ i. eqb (get_or marks i 0) u) (λ i. gone_his u (from + i)) 0 k
-      (λ i l b. ap (λ (x : ℕ). eqb x u) (f i (omega arith)) ∙ its_mark u (from + i) h))
-      ∙ rw z at (moved (gone_his u) from 0 k)
-
+module _ (img : List ℕ) (time from k : ℕ) (g : visited_good img from k ≡ true) where
   -- ---- and the headers visited are those that a call reaches
 
   module _ (n : ℕ) (its : n_of img ≡ n) (e : k ≡ Run.reach n from) where
     its-reach : k ≡ reach img from
     its-reach = rw its e
 
-    gone-is : picked (marked marks from) from k ≡ gone img from time
+    gone-is : (marks : List Bool) → Marks img time from k marks
+        → picked (marked marks from) from k ≡ gone img from time
     unfolding gone
-    gone-is = picked_same (marked marks from) (expired img time) from k marked_is
+    gone-is marks f = picked_same (marked marks from) (expired img time) from k (marked_is img time from k marks f)
         ∙ ap (picked (expired img time) from) its-reach
 
-    pub decided : all_of (λ u. leb (marks_of marks k u) (count_of n img u)) 0 64 ≡ not (scavenge_damaged img from time)
+    pub decided : (tally : List ℕ) → Tallies img time from k tally
+        → all_of (has_count n img tally) 0 64 ≡ not (scavenge_damaged img from time)
     unfolding scavenge_damaged gone_of
-    decided =
+    decided tally t =
         let v = rw its-reach at g in
-        let q : all_of (λ u. leb (marks_of marks k u) (count_of n img u)) 0 64
+        let q : all_of (has_count n img tally) 0 64
         ≡ all_of (λ u. leb (gone_of img from time u) (count_of (n_of img) img u)) 0 64 =
-        all_same (λ u. leb (marks_of marks k u) (count_of n img u))
+        all_same (has_count n img tally)
         (λ u. leb (gone_of img from time u) (count_of (n_of img) img u)) 0 64
         (λ u l b.
-        ap (λ (x : ℕ). leb x (count_of n img u)) (marks-of u b
-        ∙ ap (λ (x : ℕ). length (picked (gone_his u) from x)) its-reach)
+        ap (λ (x : ℕ). leb x (count_of n img u)) (t u b
+        ∙ ap (λ (x : ℕ). length (picked (loses img time u) from x)) its-reach)
         ∙ ap (λ (x : ℕ). leb (gone_of img from time u) (count_of x img u)) (sym its)) in
         q ∙ rw v (twice _)
 
-    -- the tally of the marks is that of the owners of the blocks that are gone
-    tally-times : (tally : List ℕ) → Tallies marks k tally → (u : ℕ) → 0 ≤ u → u < 64
+    -- the tally is that of the owners of the blocks that are gone
+    tally-times : (tally : List ℕ) → Tallies img time from k tally → (u : ℕ) → 0 ≤ u → u < 64
         → get_or tally u 0 ≡ times u (map (λ b. owner_of (header_of img b)) (gone img from time))
     unfolding gone
     tally-times tally y u l h =
-        y u h ∙ marks-of u h ∙ ap (λ (x : ℕ). length (picked (gone_his u) from x)) its-reach
+        y u h ∙ ap (λ (x : ℕ). length (picked (loses img time u) from x)) its-reach
         ∙ sym (times-picked (expired img time) (λ b. owner_of (header_of img b)) u from (reach img from))
 
     -- their numbers are below n, and their owners are clients
     blocks : Every (λ b. (b < n) × (owner_of (header_of img b) < 64)) (gone img from time)
     unfolding gone
     blocks = every_picked (expired img time) _ from (reach img from)
-        (λ b l u x. (omega (arith, its-reach, e), owner_below b l (omega (arith, its-reach)) x))
+        (λ b l u x. (omega (arith, its-reach, e), owner_below img time from k g b l (omega (arith, its-reach)) x))
 
-    removed-is : Number n → length img ≡ size_of n → Bytes img → (tally : List ℕ) → Tallies marks k tally
+    removed-is : Number n → length img ≡ size_of n → Bytes img → (marks : List Bool) → Marks img time from k marks
+        → (tally : List ℕ) → Tallies img time from k tally
         → removed_by n time marks tally from k img ≡ scavenged img from time
     unfolding scavenged puts
-    removed-is r z y tally t =
+    removed-is r z y marks f tally t =
         let bs : List ℕ = gone img from time in
         let us : List ℕ = map (λ b. owner_of (header_of img b)) bs in
         let s₀ : List ℕ = puts img (clock_set n time ∷ []) in
         let s : List ℕ = each (freed n) s₀ bs in
         let q : length s₀ ≡ size_of n = length_over img (trailer_at n + 24) (bytes_of 8 time) (simp sizes (omega arith))
         ∙ z in
-        rw (gone-is, its)
+        rw (gone-is marks f, its)
         (low_agree n (λ u. get_or tally u 0) (λ u. times u us) 64 0 s (tally-times tally t)
         ∙ sym (lowers n us (every_map _ _ (λ u. u < 64) (λ b p. p.1) bs blocks) s (swept n img r time bs blocks z y))
         ∙ sym (each_map (λ s u. low n u 1 s) (λ b. owner_of (header_of img b)) s bs)
@@ -199,59 +159,99 @@ module _ (img : List ℕ) (client key time : ℕ) where
   unfolding scavenge_report scavenge_rows changing_rows reading_rows time_rows lowest
   by_rows n k = rw (no_expiry time, k)
 
-  -- ---- the outcomes
+  abbrev pub Tried : Result Span Report → Type 0
+  Tried r = r ≡ answered (scavenge_report img client key time) (span img key (reach img key))
+
+  -- ---- the tests, one after the other
+
+  pub tried_front : (r : Report) → front_of (lowest before) img ≡ Err r → Tried (Err r)
+  tried_front r e = rw (by_rows (n_of img) refl) (in_front before (asked (n_of img)) last img _ r e)
+
+  module _ (t : Trailer) (o : front_of (lowest before) img ≡ Ok t) where
+    its : n_of img ≡ t.n
+    its = ap (λ (x : Trailer). x.n) (told_ok (lowest before) (trailer_in img) t o).1
+
+    pub tried_asked : (r : Report) → answered (lowest (asked t.n)) (tt {0}) ≡ Err r → Tried (Err r)
+    tried_asked r e = rw (by_rows t.n its)
+        (by-numbers before (asked t.n) last img (changing_rising img client 0 time) t o _ r e)
+
+    module _ (z : Clear (asked t.n)) (m : ℕ) (e : m ≡ Run.reach t.n key) where
+      after : scavenge_report img client key time ≡ lowest last
+      unfolding rising
+      after = by_rows t.n its ∙ by-headers before (asked t.n) last img
+          (changing_rising img client 0 time) t o refl z
+
+      pub visited-reach : m ≡ reach img key
+      visited-reach = rw its e
+
+      pub tried_damaged : not (scavenge_damaged img key time) ≡ false → Tried (Err Damaged)
+      unfolding lowest answered
+      tried_damaged d = sym (rw (after, not-false (scavenge_damaged img key time) d))
+
+      pub tried_well : not (scavenge_damaged img key time) ≡ true
+          → Tried (Ok (record { n = t.n; from = key; visited = m }))
+      unfolding lowest answered
+      tried_well d = sym (rw (after, not-true (scavenge_damaged img key time) d, visited-reach, its))
+
+  -- ---- the answers
 
   module _ (t : Tariff) where
-    refuses : (r : Report) (n : ℕ) → n_of img ≡ n → Refused (before ++ (asked n ++ last)) r
+    pub refuses : (r : Report) → Tried (Err r)
         → ScavengePromise t img client key time (record { receipt = refusal t r; key = key; count = 0 }) img
     unfolding scavenge_answer scavenge_image
-    refuses r n k w = let e = by_rows n k ∙ w.0 in record { answer = rw (e, w.1); image = rw (e, w.1) }
+    refuses r e =
+        let w = told_err (scavenge_report img client key time) _ r (sym e) in
+        let f : succeeds r ≡ false = rw w.1 at w.0 in
+        record { answer = rw (w.1, f); image = rw (w.1, f) }
 
-    pub refuses-front : (r : Report) → front_of (lowest before) img ≡ Shut r
-        → ScavengePromise t img client key time (record { receipt = refusal t r; key = key; count = 0 }) img
-    refuses-front r e = refuses r (n_of img) refl (in_front before (asked (n_of img)) last img r e)
+  module _ (s : Span) (e : Tried (Ok s)) where
+    let_through : succeeds (scavenge_report img client key time) ≡ true
+    let_through = (told_ok (scavenge_report img client key time) _ s (sym e)).0
 
-    module _ (n : ℕ) (clock : Tick) (o : front_of (lowest before) img ≡ Open n clock) where
-      its : n_of img ≡ n
-      its = (told_open (lowest before) img n clock o).1
+    pub its_span : span img key (reach img key) ≡ s
+    its_span = (told_ok (scavenge_report img client key time) _ s (sym e)).1
 
-      pub refuses-asked : (r : Report) → r ≡ lowest (asked n) → 0 < number_of r
-          → ScavengePromise t img client key time (record { receipt = refusal t r; key = key; count = 0 }) img
-      refuses-asked r e h = refuses r n its
-          (by-numbers before (asked n) last img (changing_rising img client 0 time) n clock o r e h)
-
-      module _ (z : number_of (lowest (asked n)) ≡ 0) where
-        after : scavenge_report img client key time ≡ lowest last
-        unfolding rising
-        after = by_rows n its ∙ by-headers before (asked n) last img
-            (changing_rising img client 0 time) n clock o refl z
-
-        pub refuses-damaged : not (scavenge_damaged img key time) ≡ false
-            → ScavengePromise t img client key time (record { receipt = refusal t Damaged; key = key; count = 0 }) img
-        unfolding lowest
-        refuses-damaged d = refuses Damaged n its (
-          sym (by_rows n its) ∙ after
-              ∙ rw (not-false (scavenge_damaged img key time) d),
-          refl,
+    its_laid : Laid img (n_of img) × (key < n_of img) × (scavenge_damaged img key time ≡ false)
+    unfolding scavenge_report scavenge_rows
+    its_laid =
+        let a = clear _ _ (omega arith) let_through in
+        let b = clear _ _ (omega arith) a.1 in
+        let c = clear _ _ (omega arith) b.1 in
+        let d = clear _ _ (omega arith) c.1 in
+        let f = clear _ _ (omega arith) d.1 in
+        let g = clear _ _ (omega arith) f.1 in
+        let h = clear _ [] (omega arith) g.1 in (
+          (known img (n_of img) (clock_of img) (not-false (trailer_right img) a.0) refl refl).laid,
+          leb-false (n_of img) key g.0,
+          h.0,
         )
 
-        pub sweeps : not (scavenge_damaged img key time) ≡ true → (m : ℕ) → m ≡ Run.reach n key
-            → (marks : List ℕ) → Marks img time key m marks → (tally : List ℕ) → Tallies marks m tally
-            → Laid img n → Bytes img → (a : ScavengeAnswer) (img' : List ℕ)
-            → a ≡ record {
-              receipt = receipt Success (scavenge_charge t);
-              key = key_at n (key + m);
-              count = length (picked (marked marks key) key m);
-            }
-            → img' ≡ removed_by n time marks tally key m img
-            → ScavengePromise t img client key time a img'
-        unfolding lowest scavenge_answer scavenge_image
-        sweeps d m e marks f tally y l b a img' p q =
-            let x = not-true (scavenge_damaged img key time) d in
-            let r : scavenge_report img client key time ≡ Success = after ∙ rw x in
-            let k : m ≡ reach img key = rw its e in
-            let g : visited_good img key m ≡ true = rw k (well img key time x) in
-            record {
-              answer = rw r (p ∙ rw (gone-is img time key m marks f g n its e, k, its));
-              image = rw r (q ∙ removed-is img time key m marks f g n its e l.number l.size b tally y);
-            }
+    pub room_for : (marks : List Bool) → Marks img time key (reach img key) marks
+        → (tally : List ℕ) → Tallies img time key (reach img key) tally
+        → Laid img s.n × (s.from + s.visited ≤ s.n) × (s.visited ≤ 64) × Marks img time s.from s.visited marks
+        × Tallies img time s.from s.visited tally
+    room_for marks f tally y =
+        let k = its_laid.1 in
+        rw (← its_span) (its_laid.0, omega arith, omega arith, f, y)
+
+    pub sweeps : (t : Tariff) (marks : List Bool) → Marks img time key (reach img key) marks
+        → (tally : List ℕ) → Tallies img time key (reach img key) tally → Bytes img
+        → (a : ScavengeAnswer) (img' : List ℕ)
+        → a ≡ record {
+          receipt = receipt Success (scavenge_charge t);
+          key = key_at s.n (s.from + s.visited);
+          count = length (picked (marked marks s.from) s.from s.visited);
+        }
+        → img' ≡ removed_by s.n time marks tally s.from s.visited img
+        → ScavengePromise t img client key time a img'
+    unfolding scavenge_answer scavenge_image
+    sweeps t marks f tally y b a img' p q =
+        let l = its_laid.0 in
+        let g = well img key time its_laid.2 in
+        let m = reach img key in
+        record {
+          answer = rw let_through (p ∙ rw (← its_span)
+              (rw (gone-is img time key m g (n_of img) refl refl marks f)));
+          image = rw let_through (q ∙ rw (← its_span)
+              (removed-is img time key m g (n_of img) refl refl l.number l.size b marks f tally y));
+        }

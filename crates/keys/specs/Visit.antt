@@ -1,15 +1,13 @@
 -- What the tests of the headers that a key call visits come to; and what Profile takes from a header.
-use Rattle.std.specs.Prelude.{ℕ, Bool, List, ◌++◌}
+use Rattle.std.specs.Prelude.{ℕ, Bool, List, ◌++◌, Option, Some, None}
 use Rattle.plain.specs.Tests.{when}
 use Rattle.word.specs.Word.{bytes_of}
 use Rattle.promise.specs.Header.{header_of, is_used, owner_of, created_of, expires_of}
 use Rattle.promise.specs.Keys.{visited_good}
-use Rattle.keys.specs.declared.visit.Visited.{Visited}
-use Rattle.keys.specs.declared.visit.Visited.TheVariants.{Good, Bad}
 
--- how many there are, or that one of them is not good
-unfoldable pub visited_of : List ℕ → (key visited : ℕ) → Visited
-visited_of img key visited = when (visited_good img key visited) (Good visited) Bad
+-- how many there are; none where one of them is not good
+unfoldable pub visited_of : List ℕ → (key visited : ℕ) → Option ℕ
+visited_of img key visited = when (visited_good img key visited) (Some visited) None
 
 -- a block is used
 abbrev pub used : List ℕ → ℕ → Bool

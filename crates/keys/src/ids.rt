@@ -1,27 +1,27 @@
 // GetIds: the tests, then the ids.
-ghost use Rattle.std.specs.Prelude.{◌≡◌, ◌+◌, ◌*◌, ◌≤◌, ◌<◌, length};
+ghost use Rattle.std.specs.Prelude.{◌≡◌, ◌+◌, ◌*◌, ◌≤◌, length};
 ghost use Rattle.word.specs.Write.{over};
 ghost use Rattle.kinds.specs.declared.Report.TheVariants.{Success};
 ghost use Rattle.tariff.specs.Charges.{get_ids_charge};
 ghost use Rattle.run.specs.Run.{one, just, picked, rows};
 ghost use Rattle.promise.specs.Layout.{header_at};
 ghost use Rattle.promise.specs.Counts.{owned_by};
-ghost use Rattle.promise.specs.Refusals.{lowest, receipt, refusal};
+ghost use Rattle.promise.specs.Refusals.{lowest, receipt};
 ghost use Rattle.promise.specs.Keys.{key_at};
-ghost use Rattle.promise.specs.GetIds.{id_row, GetIdsPromise};
+ghost use Rattle.promise.specs.GetIds.{id_row, ids_visited, get_ids_report, GetIdsPromise};
 ghost use Rattle.image.specs.Image.{Laid};
-ghost use Rattle.front.specs.Rows.{reading_rows, front_of};
-ghost use Rattle.front.specs.declared.Front.TheVariants.{Open};
-ghost use Rattle.keys.specs.Asked.{ids_rows};
+ghost use Rattle.front.specs.Rows.{answered};
+ghost use Rattle.keys.specs.Asked.{ids_rows, span};
 
-use crate::visit::Visited;
+use crate::visit::Span;
 use crate::{key_at, reach, visit};
-use front::Front;
 use image::header;
 use image::layout::{HEADER, NUMBER};
+use image::trailer::Trailer;
 use kinds::limits::MOST_IDS;
-use kinds::{GetIdsAnswer, Report, Tick, User};
+use kinds::{GetIdsAnswer, Report, User};
 use tariff::Tariff;
+use word::Number;
 
 // Names a block in the buffer, where it is the client's, after k ids; the number of ids then.
 fn name_id(img: &[u8], client: User, b: usize, ids: &mut [u8], k: usize) -> usize
@@ -37,7 +37,7 @@ fn name_id(img: &[u8], client: User, b: usize, ids: &mut [u8], k: usize) -> usiz
     let at = HEADER * b;
     let end = at + HEADER;
     let id = header::id(&img[at..end]);
-    word::put64(ids, NUMBER * k, id.0);
+    u64::put(ids, NUMBER * k, id.0);
     k + 1
 }
 
@@ -50,99 +50,61 @@ fn name_ids(img: &[u8], client: User, from: usize, visited: usize, ids: &mut [u8
     ensures bytes { ids.new ≡ over ids.old 0
         (rows (id_row img.now) (picked (owned_by img.now client.0) from visited)) }
 {
-    let mut b = from;
-    let mut left = visited;
     let mut k = 0;
-    while 0 < left {
+    for b in from..from + visited {
         k = name_id(img, client, b, ids, k);
-        b += 1;
-        left -= 1;
     }
     k
 }
 
-// The report that numbers decide, after the tests in front.
-fn asked(n: usize, key: u32, count: u32, room: usize) -> Report
-    ensures { result ≡ lowest (ids_rows n key count room) }
+// The tests that numbers decide, after those in front.
+fn asked(n: usize, key: u32, count: u32, room: usize) -> Result<(), Report>
+    ensures { result ≡ answered (lowest (ids_rows n key count room)) tt }
 {
     if n <= key as usize {
-        return Report::BadKey;
+        return Err(Report::BadKey);
     }
-    if count == 0 {
-        return Report::BadCount;
-    }
-    if MOST_IDS < count {
-        return Report::BadCount;
+    if count == 0 || MOST_IDS < count {
+        return Err(Report::BadCount);
     }
     if room < NUMBER * count as usize {
-        return Report::BadRoom;
+        return Err(Report::BadRoom);
     }
-    Report::Success
+    Ok(())
 }
 
-// A refused call: the key as received.
-fn no_ids(t: Tariff, report: Report, key: u32) -> GetIdsAnswer
-    ensures { result ≡ record { receipt = refusal t report; key = key; entries = 0 } }
+// All tests of GetIds: what it visits, or the report that refuses it.
+fn tried(client: User, key: u32, count: u32, ids: &[u8], img: &[u8]) -> Result<Span, Report>
+    ensures { result ≡ answered (get_ids_report img.now client.0 key count ids.now)
+        (span img.now key (ids_visited img.now client.0 key count)) }
 {
-    GetIdsAnswer {
-        receipt: front::refused(t, report),
-        key: key,
-        entries: 0,
-    }
+    let Trailer { n, clock } = front::reading(client, img)?;
+    asked(n, key, count, ids.len())?;
+    let from = key as usize;
+    let found = visit::visit(img, n, clock, client, from, reach(n, from), count);
+    let visited = found.ok_or(Report::Damaged)?;
+    Ok(Span { n, from, visited })
 }
 
 // The answer of a call that is not refused, its ids in the buffer.
-fn give_ids(
-    t: Tariff,
-    n: usize,
-    client: User,
-    from: usize,
-    visited: usize,
-    ids: &mut [u8],
-    img: &[u8],
-) -> GetIdsAnswer
-    requires { Laid img.now n × (from + visited ≤ n)
-        × (length (picked (owned_by img.now client.0) from visited) ≤ 64)
-        × (8 * length (picked (owned_by img.now client.0) from visited) ≤ length ids.old) }
+fn give_ids(t: Tariff, client: User, span: Span, ids: &mut [u8], img: &[u8]) -> GetIdsAnswer
+    requires { Laid img.now span.n × (span.from + span.visited ≤ span.n)
+        × (length (picked (owned_by img.now client.0) span.from span.visited) ≤ 64)
+        × (8 * length (picked (owned_by img.now client.0) span.from span.visited) ≤ length ids.old) }
     ensures answer { result ≡ record {
       receipt = receipt Success (get_ids_charge t);
-      key = key_at n (from + visited);
-      entries = length (picked (owned_by img.now client.0) from visited);
+      key = key_at span.n (span.from + span.visited);
+      entries = length (picked (owned_by img.now client.0) span.from span.visited);
     } }
     ensures bytes { ids.new ≡ over ids.old 0
-        (rows (id_row img.now) (picked (owned_by img.now client.0) from visited)) }
+        (rows (id_row img.now) (picked (owned_by img.now client.0) span.from span.visited)) }
 {
+    let Span { n, from, visited } = span;
     let entries = name_ids(img, client, from, visited, ids);
     GetIdsAnswer {
         receipt: front::done(tariff::price(t.getids)),
         key: key_at(n, from + visited),
         entries: entries as u32,
-    }
-}
-
-// GetIds, where the tests in front let it through.
-fn ids_of(
-    t: Tariff,
-    n: usize,
-    clock: Tick,
-    client: User,
-    key: u32,
-    count: u32,
-    ids: &mut [u8],
-    img: &[u8],
-) -> GetIdsAnswer
-    requires { front_of (lowest (reading_rows img.now client.0)) img.now ≡ Open n clock }
-    ensures { GetIdsPromise t img.now client.0 key count ids.old result ids.new }
-{
-    let report = asked(n, key, count, ids.len());
-    if 0 < kinds::number(report) {
-        return no_ids(t, report, key);
-    }
-    let from = key as usize;
-    let found = visit::visit(img, n, clock, client, from, reach(n, from), count);
-    match found {
-        Visited::Bad => no_ids(t, Report::Damaged, key),
-        Visited::Good(visited) => { give_ids(t, n, client, from, visited, ids, img) }
     }
 }
 
@@ -157,9 +119,12 @@ pub fn get_ids(
 ) -> GetIdsAnswer
     ensures { GetIdsPromise t img.now client.0 key count ids.old result ids.new }
 {
-    let f = front::reading(client, img);
-    match f {
-        Front::Shut(r) => no_ids(t, r, key),
-        Front::Open { n, clock } => { ids_of(t, n, clock, client, key, count, ids, img) }
+    match tried(client, key, count, ids, img) {
+        Err(r) => GetIdsAnswer {
+            receipt: front::refused(t, r),
+            key,
+            entries: 0,
+        },
+        Ok(span) => give_ids(t, client, span, ids, img),
     }
 }

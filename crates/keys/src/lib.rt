@@ -2,10 +2,11 @@
 
 #![tactic(auto)]
 
-ghost use Rattle.std.specs.Prelude.{◌≡◌, ◌-◌, ◌≤◌, ◌<◌};
+ghost use Rattle.std.specs.Prelude.{◌≡◌, ◌≤◌, ◌<◌};
 ghost use Rattle.run.specs.Run as Run;
 ghost use Rattle.promise.specs.Keys.{key_at};
 ghost use Rattle.promise.specs.Refusals.{lowest};
+ghost use Rattle.front.specs.Rows.{answered};
 ghost use Rattle.keys.specs.Asked.{manager_rows};
 
 use kinds::limits::{END_KEY, MANAGER, MOST_HEADERS};
@@ -16,22 +17,22 @@ pub mod profile;
 pub mod scavenge;
 mod visit;
 
-// The report of Scavenge and Profile that numbers decide, after the tests in front: the manager, the key, and whether
-// the buffer is too small.
-pub(crate) fn managed(n: usize, client: User, key: u32, small: bool) -> Report
-    ensures { result ≡ lowest (manager_rows n client.0 key small) }
+// The tests of Scavenge and Profile that numbers decide, after those in front: the manager, the key, and whether the
+// buffer is too small.
+pub(crate) fn managed(n: usize, client: User, key: u32, small: bool) -> Result<(), Report>
+    ensures { result ≡ answered (lowest (manager_rows n client.0 key small)) tt }
 {
     let u = client.0;
     if u != MANAGER {
-        return Report::NotManager;
+        return Err(Report::NotManager);
     }
     if n <= key as usize {
-        return Report::BadKey;
+        return Err(Report::BadKey);
     }
     if small {
-        return Report::BadRoom;
+        return Err(Report::BadRoom);
     }
-    Report::Success
+    Ok(())
 }
 
 // How many headers a call may visit: 64, or those up to N.
@@ -39,12 +40,7 @@ pub(crate) fn reach(n: usize, key: usize) -> usize
     requires { key ≤ n }
     ensures { result ≡ Run.reach n key }
 {
-    let left = n - key;
-    if left < MOST_HEADERS {
-        left
-    } else {
-        MOST_HEADERS
-    }
+    MOST_HEADERS.min(n - key)
 }
 
 // The key of a call that stopped at a block number.

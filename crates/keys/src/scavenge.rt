@@ -1,83 +1,77 @@
 // Scavenge: all is decided before a byte is stored. What is to go is kept in marks, one for each header visited.
-ghost use Rattle.std.specs.Prelude.{◌≡◌, true, not, cond, ℕ, ◌+◌, ◌-◌, ◌≤◌, ◌<◌, ltb, length, get_or};
+ghost use Rattle.std.specs.Prelude.{◌≡◌, true, not, cond, ℕ, ◌+◌, ◌≤◌, ◌<◌, ltb, length, get_or, OnOk, IfSome};
 ghost use Rattle.plain.specs.Tests.{when};
 ghost use Rattle.kinds.specs.declared.Report.TheVariants.{Success};
 ghost use Rattle.tariff.specs.Charges.{scavenge_charge};
 ghost use Rattle.run.specs.Run as Run;
 ghost use Rattle.run.specs.Run.{picked, all_of, each};
 ghost use Rattle.promise.specs.Layout.{header_at};
-ghost use Rattle.promise.specs.Refusals.{lowest, receipt, refusal};
-ghost use Rattle.promise.specs.Keys.{key_at};
-ghost use Rattle.promise.specs.Scavenge.{scavenge_damaged, ScavengePromise};
+ghost use Rattle.promise.specs.Refusals.{receipt};
+ghost use Rattle.promise.specs.Keys.{key_at, reach, visited_good};
+ghost use Rattle.promise.specs.Scavenge.{scavenge_damaged, scavenge_report, ScavengePromise};
 ghost use Rattle.image.specs.Image.{Laid, Known};
-ghost use Rattle.front.specs.Rows.{changing_rows, front_of};
-ghost use Rattle.front.specs.declared.Front.TheVariants.{Open};
-ghost use Rattle.keys.specs.Marks.{mark_of, marked, raised_at, has_count, freed, lowered, owes, lowered_by};
+ghost use Rattle.keys.specs.Marks.{loser_of, marked, raised_by, has_count, freed, lowered, owes, lowered_by};
 ghost use Rattle.keys.specs.Marks.{removed_by, Marks, Tallies};
+ghost use Rattle.front.specs.Rows.{answered};
+ghost use Rattle.keys.specs.Asked.{span};
 
+use crate::visit::Span;
 use crate::{key_at, managed, reach, visit};
-use front::Front;
 use image::layout::HEADER;
+use image::trailer::Trailer;
 use image::{counts, header, map, trailer};
 use kinds::limits::{CLIENTS, MOST_HEADERS};
 use kinds::{BlockNum, Report, ScavengeAnswer, Tick, User};
 use tariff::Tariff;
 
-// The mark of a block that stays: no client.
-const STAYS: u32 = 64;
-
-// The owner of a block that is expired, else the mark of one that stays.
-fn mark(img: &[u8], time: Tick, b: usize) -> u32
+// The client that loses a block: its owner, where it is expired.
+fn loser(img: &[u8], time: Tick, b: usize) -> Option<User>
     requires { header_at b + 64 ≤ length img.now }
-    ensures { result ≡ mark_of img.now time.0 b }
+    ensures { result ≡ loser_of img.now time.0 b }
 {
     let at = HEADER * b;
     let end = at + HEADER;
     let h = &img[at..end];
     if !header::is_used(h) {
-        return STAYS;
+        return None;
     }
     let expires = header::expires(h);
     if time.0 <= expires.0 {
-        return STAYS;
+        return None;
     }
-    let owner = header::owner(h);
-    owner.0
+    Some(header::owner(h))
 }
 
-// One more for the owner of a block that is to go.
-fn tally_mark(mark: u32, tally: &mut [u32])
-    requires { (length tally.old ≡ 64) × ((u : ℕ) → u < 64 → get_or tally.old u 0 ≤ 64) }
-    ensures { tally.new ≡ when (ltb mark 64) (raised_at mark tally.old)
-        tally.old }
+// One more for a client that loses a block.
+fn tally_loss(who: Option<User>, tally: &mut [u32])
+    requires { (length tally.old ≡ 64) × ((u : ℕ) → u < 64 → get_or tally.old u 0 ≤ 64)
+        × IfSome who (λ u. u.0 < 64) }
+    ensures { tally.new ≡ raised_by who tally.old }
 {
-    if mark < STAYS {
-        let u = mark as usize;
-        let k = tally[u];
-        tally[u] = k + 1;
+    if let Some(u) = who {
+        tally[u.0 as usize] += 1;
     }
 }
 
-// Marks the blocks visited, and counts the marks of each owner.
+// Marks the blocks visited, and counts those that each client loses.
 fn mark_all(
     img: &[u8],
     time: Tick,
     from: usize,
     visited: usize,
-    marks: &mut [u32],
+    marks: &mut [bool],
     tally: &mut [u32],
 )
     requires { (header_at (from + visited) ≤ length img.now) × (visited ≤ 64) × (length marks.old ≡ 64)
-        × (length tally.old ≡ 64) × ((u : ℕ) → get_or tally.old u 0 ≡ 0) }
+        × (length tally.old ≡ 64) × ((u : ℕ) → get_or tally.old u 0 ≡ 0)
+        × (visited_good img.now from visited ≡ true) }
     ensures marks { Marks img.now time.0 from visited marks.new }
-    ensures tally { Tallies marks.new visited tally.new }
+    ensures tally { Tallies img.now time.0 from visited tally.new }
 {
-    let mut i = 0;
-    while i < visited {
-        let m = mark(img, time, from + i);
-        marks[i] = m;
-        tally_mark(m, tally);
-        i += 1;
+    for i in 0..visited {
+        let who = loser(img, time, from + i);
+        marks[i] = who.is_some();
+        tally_loss(who, tally);
     }
 }
 
@@ -86,34 +80,30 @@ fn has_count(img: &[u8], n: usize, u: User, tally: &[u32]) -> bool
     requires { Laid img.now n × (u.0 < 64) × (length tally.now ≡ 64) }
     ensures { result ≡ has_count n img.now tally.now u.0 }
 {
-    let i = u.0 as usize;
-    let k = tally[i] as u64;
+    let k = u64::from(tally[u.0 as usize]);
     k <= counts::count_of(img, n, u)
 }
 
+// Whether no client's count is below its tally.
 fn has_counts(img: &[u8], n: usize, tally: &[u32]) -> bool
     requires { Laid img.now n × (length tally.now ≡ 64) }
     ensures { result ≡ all_of (has_count n img.now tally.now) 0 64 }
 {
-    let mut u: u32 = 0;
-    let mut left: u32 = 64;
-    while 0 < left {
+    for u in 0..CLIENTS as u32 {
         if !has_count(img, n, User(u), tally) {
             return false;
         }
-        u += 1;
-        left -= 1;
     }
     true
 }
 
-// Zeroes the header of a block with this mark and frees its bit, where it is to go; 1 where it is, else 0.
-fn free_one(img: &mut [u8], n: usize, b: usize, mark: u32) -> usize
+// Zeroes the header of a block and frees its bit, where it is to go; 1 where it is, else 0.
+fn free_one(img: &mut [u8], n: usize, b: usize, goes: bool) -> usize
     requires { Laid img.old n × (b < n) }
-    ensures gone { result ≡ cond (ltb mark 64) 1 0 }
-    ensures image { img.new ≡ when (ltb mark 64) (freed n img.old b) img.old }
+    ensures gone { result ≡ cond goes 1 0 }
+    ensures image { img.new ≡ when goes (freed n img.old b) img.old }
 {
-    if STAYS <= mark {
+    if !goes {
         return 0;
     }
     header::zero_header(img, BlockNum(b as u32));
@@ -122,39 +112,27 @@ fn free_one(img: &mut [u8], n: usize, b: usize, mark: u32) -> usize
 }
 
 // Zeroes the headers and frees the bits of the blocks that are to go, from the lowest; their number.
-fn free_blocks(img: &mut [u8], n: usize, from: usize, visited: usize, marks: &[u32]) -> usize
+fn free_blocks(img: &mut [u8], n: usize, from: usize, visited: usize, marks: &[bool]) -> usize
     requires { Laid img.old n × (from + visited ≤ n) × (visited ≤ 64) × (length marks.now ≡ 64) }
     ensures gone { result ≡ length (picked (marked marks.now from) from visited) }
     ensures image { img.new ≡ each (freed n) img.old
         (picked (marked marks.now from) from visited) }
 {
-    let mut b = from;
-    let mut left = visited;
     let mut k = 0;
-    while 0 < left {
-        let m = marks[b - from];
-        k += free_one(img, n, b, m);
-        b += 1;
-        left -= 1;
+    for b in from..from + visited {
+        k += free_one(img, n, b, marks[b - from]);
     }
     k
 }
 
-// So many less; 0 where there are fewer.
-fn less(x: u64, k: u32) -> u64
-    ensures { result ≡ x - k }
-{
-    let y = k as u64;
-    if x < y { 0 } else { x - y }
-}
-
+// Lowers a client's count by k, and not below 0.
 fn lower_one(img: &mut [u8], n: usize, u: User, k: u32)
     requires { Laid img.old n × (u.0 < 64) }
     ensures { img.new ≡ when (ltb 0 k) (lowered n u.0 k img.old) img.old }
 {
     if 0 < k {
         let count = counts::count_of(img, n, u);
-        counts::set_count(img, n, u, less(count, k));
+        counts::set_count(img, n, u, count.saturating_sub(k as u64));
     }
 }
 
@@ -164,34 +142,23 @@ fn lower_counts(img: &mut [u8], n: usize, tally: &[u32])
     ensures { img.new ≡ each (lowered_by n tally.now) img.old
         (picked (owes tally.now) 0 64) }
 {
-    let mut u: u32 = 0;
-    let mut left: u32 = 64;
-    while 0 < left {
-        let i = u as usize;
-        let k = tally[i];
-        lower_one(img, n, User(u), k);
-        u += 1;
-        left -= 1;
+    for (u, k) in tally.iter().enumerate() {
+        lower_one(img, n, User(u as u32), *k);
     }
 }
 
 // Removes the blocks that are to go: the clock, their headers and bits from the lowest, the counts. Their number.
-fn remove(
-    img: &mut [u8],
-    n: usize,
-    time: Tick,
-    from: usize,
-    visited: usize,
-    marks: &[u32],
-    tally: &[u32],
-) -> usize
-    requires { Laid img.old n × (from + visited ≤ n) × (visited ≤ 64) × (length marks.now ≡ 64)
-        × (length tally.now ≡ 64) × Tallies marks.now visited tally.now }
-    ensures gone { result ≡ length (picked (marked marks.now from) from visited) }
-    ensures image { img.new ≡ removed_by n time.0 marks.now
-        tally.now from visited
+fn remove(img: &mut [u8], span: Span, time: Tick, marks: &[bool], tally: &[u32]) -> usize
+    requires { Laid img.old span.n × (span.from + span.visited ≤ span.n) × (span.visited ≤ 64)
+        × (length marks.now ≡ 64) × (length tally.now ≡ 64)
+        × Marks img.old time.0 span.from span.visited marks.now
+        × Tallies img.old time.0 span.from span.visited tally.now }
+    ensures gone { result ≡ length (picked (marked marks.now span.from) span.from span.visited) }
+    ensures image { img.new ≡ removed_by span.n time.0 marks.now
+        tally.now span.from span.visited
         img.old }
 {
+    let Span { n, from, visited } = span;
     trailer::set_clock(img, n, time);
     let count = free_blocks(img, n, from, visited, marks);
     if 0 < count {
@@ -204,102 +171,95 @@ fn remove(
 // are marked, and those that are to go are tallied by their owners.
 fn decide(
     img: &[u8],
-    n: usize,
+    span: Span,
     clock: Tick,
     time: Tick,
-    from: usize,
-    visited: usize,
-    marks: &mut [u32],
+    marks: &mut [bool],
     tally: &mut [u32],
 ) -> bool
-    requires { Known img.now n clock.0 × (from + visited ≤ n) × (visited ≡ Run.reach n from)
+    requires { Known img.now span.n clock.0 × (span.from + span.visited ≤ span.n)
+        × (span.visited ≡ Run.reach span.n span.from)
         × (length marks.old ≡ 64) × (length tally.old ≡ 64) × ((u : ℕ) → get_or tally.old u 0 ≡ 0) }
-    ensures answer { result ≡ not (scavenge_damaged img.now from time.0) }
-    ensures marks { result ≡ true → Marks img.now time.0 from visited marks.new }
-    ensures tally { result ≡ true → Tallies marks.new visited tally.new }
+    ensures answer { result ≡ not (scavenge_damaged img.now span.from time.0) }
+    ensures marks { result ≡ true → Marks img.now time.0 span.from span.visited marks.new }
+    ensures tally { result ≡ true → Tallies img.now time.0 span.from span.visited tally.new }
 {
-    if !visit::all_good(img, n, clock, from, visited) {
+    if !visit::all_good(img, clock, span) {
         return false;
     }
-    mark_all(img, time, from, visited, marks, tally);
-    has_counts(img, n, tally)
+    mark_all(img, time, span.from, span.visited, marks, tally);
+    has_counts(img, span.n, tally)
 }
 
-// A refused call: the key as received.
-fn no_scavenge(t: Tariff, report: Report, key: u32) -> ScavengeAnswer
-    ensures { result ≡ record { receipt = refusal t report; key = key; count = 0 } }
+// All tests of Scavenge: what it visits, or the report that refuses it. Where they pass, the blocks visited are marked,
+// and those that are to go are tallied by their owners.
+fn tried(
+    client: User,
+    key: u32,
+    time: Tick,
+    img: &[u8],
+    marks: &mut [bool],
+    tally: &mut [u32],
+) -> Result<Span, Report>
+    requires { (length marks.old ≡ 64) × (length tally.old ≡ 64) × ((u : ℕ) → get_or tally.old u 0 ≡ 0) }
+    ensures report { result ≡ answered (scavenge_report img.now client.0 key time.0)
+        (span img.now key (reach img.now key)) }
+    ensures marks { OnOk result (Marks img.now time.0 key (reach img.now key) marks.new) }
+    ensures tally { OnOk result (Tallies img.now time.0 key (reach img.now key) tally.new) }
 {
-    ScavengeAnswer {
-        receipt: front::refused(t, report),
-        key: key,
-        count: 0,
+    let Trailer { n, clock } = front::changing(client, Tick(0), time, img)?;
+    managed(n, client, key, false)?;
+    let from = key as usize;
+    let visited = reach(n, from);
+    let span = Span { n, from, visited };
+    if !decide(img, span, clock, time, marks, tally) {
+        return Err(Report::Damaged);
     }
+    Ok(span)
 }
 
 // The answer of a call that is not refused, its blocks removed.
 fn give_scavenge(
     t: Tariff,
-    n: usize,
     time: Tick,
-    from: usize,
-    visited: usize,
-    marks: &[u32],
+    span: Span,
+    marks: &[bool],
     tally: &[u32],
     img: &mut [u8],
 ) -> ScavengeAnswer
-    requires { Laid img.old n × (from + visited ≤ n) × (visited ≤ 64) × (length marks.now ≡ 64)
-        × (length tally.now ≡ 64) × Tallies marks.now visited tally.now }
+    requires { Laid img.old span.n × (span.from + span.visited ≤ span.n) × (span.visited ≤ 64)
+        × (length marks.now ≡ 64) × (length tally.now ≡ 64)
+        × Marks img.old time.0 span.from span.visited marks.now
+        × Tallies img.old time.0 span.from span.visited tally.now }
     ensures answer { result ≡ record {
       receipt = receipt Success (scavenge_charge t);
-      key = key_at n (from + visited);
-      count = length (picked (marked marks.now from) from visited);
+      key = key_at span.n (span.from + span.visited);
+      count = length (picked (marked marks.now span.from) span.from span.visited);
     } }
-    ensures image { img.new ≡ removed_by n time.0 marks.now
-        tally.now from visited
+    ensures image { img.new ≡ removed_by span.n time.0 marks.now
+        tally.now span.from span.visited
         img.old }
 {
-    let count = remove(img, n, time, from, visited, marks, tally);
+    let count = remove(img, span, time, marks, tally);
     ScavengeAnswer {
         receipt: front::done(tariff::price(t.scavenge)),
-        key: key_at(n, from + visited),
+        key: key_at(span.n, span.from + span.visited),
         count: count as u32,
     }
-}
-
-// Scavenge, where the tests in front let it through.
-fn scavenge_of(
-    t: Tariff,
-    n: usize,
-    clock: Tick,
-    client: User,
-    key: u32,
-    time: Tick,
-    img: &mut [u8],
-) -> ScavengeAnswer
-    requires { front_of (lowest (changing_rows img.old client.0 0 time.0)) img.old ≡ Open n clock }
-    ensures { ScavengePromise t img.old client.0 key time.0 result img.new }
-{
-    let report = managed(n, client, key, false);
-    if 0 < kinds::number(report) {
-        return no_scavenge(t, report, key);
-    }
-    let from = key as usize;
-    let visited = reach(n, from);
-    let mut marks = [STAYS; MOST_HEADERS];
-    let mut tally = [0u32; CLIENTS];
-    if !decide(img, n, clock, time, from, visited, &mut marks, &mut tally) {
-        return no_scavenge(t, Report::Damaged, key);
-    }
-    give_scavenge(t, n, time, from, visited, &marks, &tally, img)
 }
 
 // Scavenge: removes the blocks that are expired among the headers that it visits from the key upward.
 pub fn scavenge(t: Tariff, client: User, key: u32, time: Tick, img: &mut [u8]) -> ScavengeAnswer
     ensures { ScavengePromise t img.old client.0 key time.0 result img.new }
 {
-    let f = front::changing(client, Tick(0), time, img);
-    match f {
-        Front::Shut(r) => no_scavenge(t, r, key),
-        Front::Open { n, clock } => { scavenge_of(t, n, clock, client, key, time, img) }
+    let mut marks = [false; MOST_HEADERS];
+    let mut tally = [0u32; CLIENTS];
+    match tried(client, key, time, img, &mut marks, &mut tally) {
+        Err(r) => ScavengeAnswer {
+            receipt: front::refused(t, r),
+            key,
+            count: 0,
+        },
+        Ok(span) => give_scavenge(t, time, span, &marks, &tally, img),
     }
 }

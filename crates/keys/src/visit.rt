@@ -1,7 +1,6 @@
 // The headers that a call visits, tested: one function for the three operations.
-ghost use Rattle.std.specs.Prelude.{◌≡◌, ◌+◌, ◌≤◌, length};
-ghost use Rattle.run.specs.Run.{one, visits};
-ghost use Rattle.promise.specs.Layout.{header_at};
+ghost use Rattle.std.specs.Prelude.{◌≡◌, ◌+◌, ◌≤◌};
+ghost use Rattle.run.specs.Run.{visits};
 ghost use Rattle.promise.specs.Counts.{owned_by};
 ghost use Rattle.promise.specs.Keys.{visited_good};
 ghost use Rattle.image.specs.Image.{Known};
@@ -11,26 +10,16 @@ use image::header;
 use kinds::limits::MOST_IDS;
 use kinds::{BlockNum, Tick, User};
 
-// How many headers were visited, all of them good; or that one was not.
+// The headers that a call visits, where the image has n: how many, and the block number of the first.
 #[derive(Clone, Copy)]
-pub(crate) enum Visited {
-    Good(usize),
-    Bad,
+pub(crate) struct Span {
+    pub(crate) n: usize,
+    pub(crate) from: usize,
+    pub(crate) visited: usize,
 }
 
-// 1 for a block that is used and the client's, else 0.
-fn count_owned(img: &[u8], client: User, b: usize) -> u32
-    requires { header_at b + 64 ≤ length img.now }
-    ensures { result ≡ one (owned_by img.now client.0) b }
-{
-    if header::is_owned(img, client, b) {
-        1
-    } else {
-        0
-    }
-}
-
-// Tests headers from a block number upward, up to `most`, and none after `count` of the client's blocks have been met.
+// Tests headers from a block number upward, up to `most`, and none after `count` of the client's blocks have been met;
+// how many are visited, or None where one of them is not good.
 pub(crate) fn visit(
     img: &[u8],
     n: usize,
@@ -39,33 +28,29 @@ pub(crate) fn visit(
     from: usize,
     most: usize,
     count: u32,
-) -> Visited
+) -> Option<usize>
     requires { Known img.now n clock.0 × (from + most ≤ n) }
     ensures { result ≡ visited_of img.now from
         (visits (owned_by img.now client.0) most count from) }
 {
-    let mut b = from;
-    let mut left = most;
     let mut wanted = count;
-    while 0 < left && 0 < wanted {
-        if !header::is_good(img, n, clock, BlockNum(b as u32)) {
-            return Visited::Bad;
+    for b in from..from + most {
+        if wanted == 0 {
+            return Some(b - from);
         }
-        wanted -= count_owned(img, client, b);
-        b += 1;
-        left -= 1;
+        if !header::is_good(img, n, clock, BlockNum(b as u32)) {
+            return None;
+        }
+        wanted -= u32::from(header::is_owned(img, client, b));
     }
-    Visited::Good(b - from)
+    Some(most)
 }
 
-// Tests all of `most` headers, which are 64 at most: so many of a client's blocks are not met before the last of them.
-pub(crate) fn all_good(img: &[u8], n: usize, clock: Tick, from: usize, most: usize) -> bool
-    requires { Known img.now n clock.0 × (from + most ≤ n) × (most ≤ 64) }
-    ensures { result ≡ visited_good img.now from most }
+// Tests all headers of a span, which are 64 at most: so many of a client's blocks are not met before the last of them.
+pub(crate) fn all_good(img: &[u8], clock: Tick, span: Span) -> bool
+    requires { Known img.now span.n clock.0 × (span.from + span.visited ≤ span.n) × (span.visited ≤ 64) }
+    ensures { result ≡ visited_good img.now span.from span.visited }
 {
-    let found = visit(img, n, clock, User(0), from, most, MOST_IDS);
-    match found {
-        Visited::Bad => false,
-        Visited::Good(_) => true,
-    }
+    let Span { n, from, visited } = span;
+    visit(img, n, clock, User(0), from, visited, MOST_IDS).is_some()
 }

@@ -23,8 +23,8 @@ pub fn start(client: User, count: u32) -> Walk
     ensures { result ≡ started client count }
 {
     Walk {
-        client: client,
-        count: count,
+        client,
+        count,
         key: START_KEY,
         ended: false,
     }
@@ -49,15 +49,13 @@ fn ended_answer() -> GetIdsAnswer
 fn moved(w: Walk, report: Report, key: u32) -> Walk
     ensures { result ≡ when (succeeds report) (moved_to w key) w }
 {
-    if 0 < kinds::number(report) {
-        return w;
-    }
-    let client = w.client;
-    Walk {
-        client: client,
-        count: w.count,
-        key: key,
-        ended: key == END_KEY,
+    match report {
+        Report::Success => Walk {
+            key,
+            ended: key == END_KEY,
+            ..w
+        },
+        _ => w,
     }
 }
 
@@ -71,13 +69,10 @@ pub fn next(t: Tariff, w: Walk, ids: &mut [u8], img: &[u8]) -> Stepped
             walk: w,
         };
     }
-    let client = w.client;
-    let answer = keys::ids::get_ids(t, client, w.key, w.count, ids, img);
-    let receipt = answer.receipt;
-    let report = receipt.report;
+    let answer = keys::ids::get_ids(t, w.client, w.key, w.count, ids, img);
     Stepped {
-        answer: answer,
-        walk: moved(w, report, answer.key),
+        answer,
+        walk: moved(w, answer.receipt.report, answer.key),
     }
 }
 
@@ -86,7 +81,7 @@ pub fn step(t: Tariff, w: &mut Walk, ids: &mut [u8], img: &[u8]) -> GetIdsAnswer
     ensures { StepPromise t img.now w.old ids.old result w.new
         ids.new }
 {
-    let a = next(t, *w, ids, img);
-    *w = a.walk;
-    a.answer
+    let s = next(t, *w, ids, img);
+    *w = s.walk;
+    s.answer
 }

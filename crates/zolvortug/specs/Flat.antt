@@ -10,6 +10,7 @@ use Rattle.kinds.specs.declared.GetIdsAnswer.{GetIdsAnswer}
 use Rattle.kinds.specs.declared.GetCountAnswer.{GetCountAnswer}
 use Rattle.kinds.specs.declared.ScavengeAnswer.{ScavengeAnswer}
 use Rattle.kinds.specs.declared.ProfileAnswer.{ProfileAnswer}
+use Rattle.kinds.specs.declared.Receipt.{Receipt}
 use Rattle.kinds.specs.declared.Walk.{Walk}
 use Rattle.zolvortug.specs.declared.single.Created.{Created}
 use Rattle.zolvortug.specs.declared.single.Done.{Done}
@@ -19,11 +20,15 @@ use Rattle.zolvortug.specs.declared.keyed.Listed.{Listed}
 use Rattle.zolvortug.specs.declared.keyed.Scavenged.{Scavenged}
 use Rattle.zolvortug.specs.declared.keyed.Stepped.{Stepped}
 
+-- a receipt, which is all that Read, Destroy and SetExpiry give
+abbrev pub done : Receipt → Done
+done r = record { charge = r.charge; report = number_of r.report }
+
 abbrev pub created : CreateAnswer → Created
 created a = record { id = a.id; charge = a.receipt.charge; report = number_of a.receipt.report }
 
 abbrev pub read : ReadAnswer → Done
-read a = record { charge = a.receipt.charge; report = number_of a.receipt.report }
+read a = done a.receipt
 
 abbrev pub status : StatusAnswer → Told
 status a = record {
@@ -35,13 +40,13 @@ status a = record {
 }
 
 abbrev pub destroyed : DestroyAnswer → Done
-destroyed a = record { charge = a.receipt.charge; report = number_of a.receipt.report }
+destroyed a = done a.receipt
 
 abbrev pub replaced : ReplaceAnswer → Created
 replaced a = record { id = a.id; charge = a.receipt.charge; report = number_of a.receipt.report }
 
 abbrev pub expiry_set : SetExpiryAnswer → Done
-expiry_set a = record { charge = a.receipt.charge; report = number_of a.receipt.report }
+expiry_set a = done a.receipt
 
 abbrev pub listed : GetIdsAnswer → Listed
 listed a = record {

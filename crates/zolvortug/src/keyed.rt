@@ -7,7 +7,7 @@ ghost use Rattle.promise.specs.Walk.{started, step_answer, step_walk, step_buffe
 ghost use Rattle.kinds.specs.Kinds.{user};
 ghost use Rattle.zolvortug.specs.Flat.{listed, scavenged, profiled, stepped};
 
-use kinds::{Money, Tick, User, Walk};
+use kinds::{GetIdsAnswer, Money, ProfileAnswer, ScavengeAnswer, Tick, User, Walk};
 use tariff::Tariff;
 
 // What GetIds and Profile give: the key to go on with, and how many entries were written.
@@ -41,6 +41,59 @@ pub struct Stepped {
     pub report: u8,
 }
 
+impl From<GetIdsAnswer> for Listed {
+    ghost from_gives = { λ a flat. flat ≡ listed a };
+
+    fn from(a: GetIdsAnswer) -> Listed {
+        Listed {
+            key: a.key,
+            entries: a.entries,
+            charge: a.receipt.charge,
+            report: u8::from(a.receipt.report),
+        }
+    }
+}
+
+impl From<ScavengeAnswer> for Scavenged {
+    ghost from_gives = { λ a flat. flat ≡ scavenged a };
+
+    fn from(a: ScavengeAnswer) -> Scavenged {
+        Scavenged {
+            key: a.key,
+            count: a.count,
+            charge: a.receipt.charge,
+            report: u8::from(a.receipt.report),
+        }
+    }
+}
+
+impl From<ProfileAnswer> for Listed {
+    ghost from_gives = { λ a flat. flat ≡ profiled a };
+
+    fn from(a: ProfileAnswer) -> Listed {
+        Listed {
+            key: a.key,
+            entries: a.entries,
+            charge: a.receipt.charge,
+            report: u8::from(a.receipt.report),
+        }
+    }
+}
+
+impl From<walk::Stepped> for Stepped {
+    ghost from_gives = { λ s flat. flat ≡ stepped s.answer s.walk };
+
+    fn from(s: walk::Stepped) -> Stepped {
+        Stepped {
+            walk: s.walk,
+            charge: s.answer.receipt.charge,
+            key: s.answer.key,
+            entries: s.answer.entries,
+            report: u8::from(s.answer.receipt.report),
+        }
+    }
+}
+
 #[unsafe(no_mangle)]
 pub extern "C" fn zolvortug_get_ids(
     t: Tariff,
@@ -53,16 +106,7 @@ pub extern "C" fn zolvortug_get_ids(
     ensures answer { result ≡ listed (get_ids_answer t img.now client key count ids.old) }
     ensures given { ids.new ≡ get_ids_buffer img.now client key count ids.old }
 {
-    let a = keys::ids::get_ids(t, User(client), key, count, ids, img);
-    let receipt = a.receipt;
-    let report = receipt.report;
-    let charge = receipt.charge;
-    Listed {
-        charge: charge,
-        key: a.key,
-        entries: a.entries,
-        report: kinds::number(report),
-    }
+    keys::ids::get_ids(t, User(client), key, count, ids, img).into()
 }
 
 #[unsafe(no_mangle)]
@@ -76,16 +120,7 @@ pub extern "C" fn zolvortug_scavenge(
     ensures answer { result ≡ scavenged (scavenge_answer t img.old client key time) }
     ensures image { img.new ≡ scavenge_image img.old client key time }
 {
-    let a = keys::scavenge::scavenge(t, User(client), key, Tick(time), img);
-    let receipt = a.receipt;
-    let report = receipt.report;
-    let charge = receipt.charge;
-    Scavenged {
-        charge: charge,
-        key: a.key,
-        count: a.count,
-        report: kinds::number(report),
-    }
+    keys::scavenge::scavenge(t, User(client), key, Tick(time), img).into()
 }
 
 #[unsafe(no_mangle)]
@@ -99,16 +134,7 @@ pub extern "C" fn zolvortug_profile(
     ensures answer { result ≡ profiled (profile_answer t img.now client key buffer.old) }
     ensures given { buffer.new ≡ profile_buffer img.now client key buffer.old }
 {
-    let a = keys::profile::profile(t, User(client), key, buffer, img);
-    let receipt = a.receipt;
-    let report = receipt.report;
-    let charge = receipt.charge;
-    Listed {
-        charge: charge,
-        key: a.key,
-        entries: a.entries,
-        report: kinds::number(report),
-    }
+    keys::profile::profile(t, User(client), key, buffer, img).into()
 }
 
 // A walk over a client's ids from the start key, with so many ids a step at most.
@@ -126,17 +152,5 @@ pub extern "C" fn zolvortug_step(t: Tariff, w: Walk, ids: &mut [u8], img: &[u8])
         (step_walk t img.now w ids.old) }
     ensures given { ids.new ≡ step_buffer img.now w ids.old }
 {
-    let s = walk::next(t, w, ids, img);
-    let a = s.answer;
-    let after = s.walk;
-    let receipt = a.receipt;
-    let report = receipt.report;
-    let charge = receipt.charge;
-    Stepped {
-        walk: after,
-        charge: charge,
-        key: a.key,
-        entries: a.entries,
-        report: kinds::number(report),
-    }
+    walk::next(t, w, ids, img).into()
 }

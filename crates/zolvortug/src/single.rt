@@ -7,9 +7,9 @@ ghost use Rattle.promise.specs.Destroy.{destroy_answer, destroy_image};
 ghost use Rattle.promise.specs.Replace.{replace_answer, replace_image};
 ghost use Rattle.promise.specs.SetExpiry.{set_expiry_answer, set_expiry_image};
 ghost use Rattle.promise.specs.GetCount.{get_count_answer};
-ghost use Rattle.zolvortug.specs.Flat.{created, read, status, destroyed, replaced, expiry_set, counted};
+ghost use Rattle.zolvortug.specs.Flat.{created, read, status, destroyed, replaced, expiry_set, counted, done};
 
-use kinds::{Id, Money, Tick, User};
+use kinds::{CreateAnswer, GetCountAnswer, Id, Money, Receipt, ReplaceAnswer, StatusAnswer, Tick, User};
 use tariff::Tariff;
 
 // What Create and Replace give.
@@ -49,6 +49,67 @@ pub struct Counted {
     pub report: u8,
 }
 
+impl From<CreateAnswer> for Created {
+    ghost from_gives = { λ a flat. flat ≡ created a };
+
+    fn from(a: CreateAnswer) -> Created {
+        Created {
+            id: a.id,
+            charge: a.receipt.charge,
+            report: u8::from(a.receipt.report),
+        }
+    }
+}
+
+impl From<ReplaceAnswer> for Created {
+    ghost from_gives = { λ a flat. flat ≡ replaced a };
+
+    fn from(a: ReplaceAnswer) -> Created {
+        Created {
+            id: a.id,
+            charge: a.receipt.charge,
+            report: u8::from(a.receipt.report),
+        }
+    }
+}
+
+impl From<Receipt> for Done {
+    ghost from_gives = { λ r flat. flat ≡ done r };
+
+    fn from(r: Receipt) -> Done {
+        Done {
+            charge: r.charge,
+            report: u8::from(r.report),
+        }
+    }
+}
+
+impl From<StatusAnswer> for Told {
+    ghost from_gives = { λ a flat. flat ≡ status a };
+
+    fn from(a: StatusAnswer) -> Told {
+        Told {
+            created: a.created,
+            expires: a.expires,
+            owner: a.owner,
+            charge: a.receipt.charge,
+            report: u8::from(a.receipt.report),
+        }
+    }
+}
+
+impl From<GetCountAnswer> for Counted {
+    ghost from_gives = { λ a flat. flat ≡ counted a };
+
+    fn from(a: GetCountAnswer) -> Counted {
+        Counted {
+            count: a.count,
+            charge: a.receipt.charge,
+            report: u8::from(a.receipt.report),
+        }
+    }
+}
+
 #[unsafe(no_mangle)]
 pub extern "C" fn zolvortug_create(
     t: Tariff,
@@ -61,16 +122,7 @@ pub extern "C" fn zolvortug_create(
     ensures answer { result ≡ created (create_answer t img.old client expiry bytes.now time) }
     ensures image { img.new ≡ create_image img.old client expiry bytes.now time }
 {
-    let a = store::create::create(t, User(client), Tick(expiry), bytes, Tick(time), img);
-    let receipt = a.receipt;
-    let report = receipt.report;
-    let charge = receipt.charge;
-    let id = a.id;
-    Created {
-        id: id,
-        charge: charge,
-        report: kinds::number(report),
-    }
+    store::create::create(t, User(client), Tick(expiry), bytes, Tick(time), img).into()
 }
 
 #[unsafe(no_mangle)]
@@ -84,34 +136,14 @@ pub extern "C" fn zolvortug_read(
     ensures answer { result ≡ read (read_answer t img.now client id buffer.old) }
     ensures given { buffer.new ≡ read_buffer img.now client id buffer.old }
 {
-    let a = store::read::read(t, User(client), Id(id), buffer, img);
-    let receipt = a.receipt;
-    let report = receipt.report;
-    let charge = receipt.charge;
-    Done {
-        charge: charge,
-        report: kinds::number(report),
-    }
+    store::read::read(t, User(client), Id(id), buffer, img).receipt.into()
 }
 
 #[unsafe(no_mangle)]
 pub extern "C" fn zolvortug_status(t: Tariff, client: u32, id: u64, img: &[u8]) -> Told
     ensures { result ≡ status (status_answer t img.now client id) }
 {
-    let a = store::status::status(t, User(client), Id(id), img);
-    let receipt = a.receipt;
-    let report = receipt.report;
-    let charge = receipt.charge;
-    let owner = a.owner;
-    let created = a.created;
-    let expires = a.expires;
-    Told {
-        created: created,
-        expires: expires,
-        charge: charge,
-        owner: owner,
-        report: kinds::number(report),
-    }
+    store::status::status(t, User(client), Id(id), img).into()
 }
 
 #[unsafe(no_mangle)]
@@ -125,14 +157,7 @@ pub extern "C" fn zolvortug_destroy(
     ensures answer { result ≡ destroyed (destroy_answer t img.old client id time) }
     ensures image { img.new ≡ destroy_image img.old client id time }
 {
-    let a = store::destroy::destroy(t, User(client), Id(id), Tick(time), img);
-    let receipt = a.receipt;
-    let report = receipt.report;
-    let charge = receipt.charge;
-    Done {
-        charge: charge,
-        report: kinds::number(report),
-    }
+    store::destroy::destroy(t, User(client), Id(id), Tick(time), img).receipt.into()
 }
 
 #[unsafe(no_mangle)]
@@ -147,16 +172,7 @@ pub extern "C" fn zolvortug_replace(
     ensures answer { result ≡ replaced (replace_answer t img.old client id bytes.now time) }
     ensures image { img.new ≡ replace_image img.old client id bytes.now time }
 {
-    let a = store::replace::replace(t, User(client), Id(id), bytes, Tick(time), img);
-    let receipt = a.receipt;
-    let report = receipt.report;
-    let charge = receipt.charge;
-    let made = a.id;
-    Created {
-        id: made,
-        charge: charge,
-        report: kinds::number(report),
-    }
+    store::replace::replace(t, User(client), Id(id), bytes, Tick(time), img).into()
 }
 
 #[unsafe(no_mangle)]
@@ -171,27 +187,12 @@ pub extern "C" fn zolvortug_set_expiry(
     ensures answer { result ≡ expiry_set (set_expiry_answer t img.old client id expiry time) }
     ensures image { img.new ≡ set_expiry_image img.old client id expiry time }
 {
-    let a = store::set_expiry::set_expiry(t, User(client), Id(id), Tick(expiry), Tick(time), img);
-    let receipt = a.receipt;
-    let report = receipt.report;
-    let charge = receipt.charge;
-    Done {
-        charge: charge,
-        report: kinds::number(report),
-    }
+    store::set_expiry::set_expiry(t, User(client), Id(id), Tick(expiry), Tick(time), img).receipt.into()
 }
 
 #[unsafe(no_mangle)]
 pub extern "C" fn zolvortug_get_count(t: Tariff, client: u32, img: &[u8]) -> Counted
     ensures { result ≡ counted (get_count_answer t img.now client) }
 {
-    let a = store::get_count::get_count(t, User(client), img);
-    let receipt = a.receipt;
-    let report = receipt.report;
-    let charge = receipt.charge;
-    Counted {
-        charge: charge,
-        count: a.count,
-        report: kinds::number(report),
-    }
+    store::get_count::get_count(t, User(client), img).into()
 }

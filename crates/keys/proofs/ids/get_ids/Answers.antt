@@ -1,13 +1,14 @@
--- `keys::ids::get_ids` meets its contract: the tests in front, and then `ids_of`.
+-- `keys::ids::get_ids` meets its contract: its tests, and then the ids.
 use mathlib.Core.Path.{sym, ◌∙◌}
-use Rattle.keys.proofs.Listing.{refuses-front}
+use Rattle.keys.proofs.Listing.{refuses, room_for, lists}
 use Rattle.keys.proofs.ids.get_ids.Goals as goal
 
-pub ids_of-requires : goal.ids_of-requires
-ids_of-requires c =
-    sym c.reading-f.ensures ∙ c.in-Open.is
+pub give_ids-requires : goal.give_ids-requires
+give_ids-requires c = let r = room_for _ _ _ _ _ _ (sym c.in-Ok.is ∙ c.tried.ensures) in (r.0, r.1, r.2, r.3)
 
-pub returns-in-Shut : goal.returns-in-Shut
-returns-in-Shut c =
-    rw c.no_ids.ensures (refuses-front _ _ _ _ _ _ _ (sym c.reading-f.ensures
-    ∙ c.in-Shut.is))
+pub returns-in-Err : goal.returns-in-Err
+returns-in-Err c = rw c.refused.ensures (refuses _ _ _ _ _ _ _ (sym c.in-Err.is ∙ c.tried.ensures))
+
+pub returns-in-Ok : goal.returns-in-Ok
+returns-in-Ok c = lists _ _ _ _ _ _ (sym c.in-Ok.is ∙ c.tried.ensures) _ _ _
+    c.give_ids.ensures.answer c.give_ids.ensures.bytes

@@ -12,8 +12,8 @@ returns-then-not-is_owned c =
     let both = not_named _ _ _ _ _ (sym c.is_owned.ensures ∙ c.if-not-is_owned.true) in
     record { entries = both.0; bytes = both.1 }
 
-pub put64-requires : goal.put64-requires
-put64-requires c =
+pub put-requires : goal.put-requires
+put-requires c =
     let a = c.args in
     omega (
       arith,
@@ -25,4 +25,4 @@ pub returns : goal.returns
 returns c =
     let e = named _ _ _ _ _ _ (sym c.is_owned.ensures
     ∙ c.if-not-is_owned.false) (ap (λ (x : Id). x.0) c.id-id.ensures) in
-    record { entries = e.0; bytes = c.put64.ensures ∙ e.1 }
+    record { entries = e.0; bytes = c.put.ensures ∙ e.1 }

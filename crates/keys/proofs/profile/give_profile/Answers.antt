@@ -7,11 +7,4 @@ use Rattle.keys.proofs.profile.give_profile.Goals as goal
 pub overflow_cast-result : goal.overflow_cast-result
 overflow_cast-result c =
     let a = c.args in
-    omega (arith, c.enter_blocks-entries.ensures.entries, picked_few (used a.img.now) a.from a.visited)
-
-pub returns : goal.returns
-returns c =
-    record {
-      answer = rw (c.done.ensures, c.price.ensures, c.key_at.ensures, c.enter_blocks-entries.ensures.entries);
-      bytes = c.enter_blocks-entries.ensures.bytes;
-    }
+    omega (arith, c.enter_blocks-entries.ensures.entries, picked_few (used a.img.now) a.span.from a.span.visited)

@@ -6,9 +6,9 @@ use Rattle.keys.proofs.profile.put_entry.Goals as goal
 pub returns : goal.returns
 returns c =
     rw (
-      c.put64-3.ensures,
-      c.put64-2.ensures,
-      c.put64.ensures,
+      c.put-3.ensures,
+      c.put-2.ensures,
+      c.put.ensures,
       c.expires-expires.ensures,
       c.created-created.ensures,
       c.owner-owner.ensures,

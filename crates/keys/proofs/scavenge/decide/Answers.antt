@@ -1,7 +1,6 @@
 -- `keys::scavenge::decide` meets its contract.
 use mathlib.Core.Path.{sym, ◌∙◌}
 use mathlib.Core.Bool.{true≢false}
-use Rattle.keys.proofs.Marks.{by_tally}
 use Rattle.keys.proofs.Sweeps.{decided, bad_header}
 use Rattle.keys.proofs.scavenge.decide.Goals as goal
 
@@ -17,12 +16,10 @@ returns-then-not-all_good c =
 pub returns : goal.returns
 returns c =
     let a = c.args in
-    let marks = c.mark_all.new.marks in
     let g = sym c.all_good.ensures ∙ c.if-not-all_good.false in record {
       answer = c.has_counts.ensures
-          ∙ by_tally a.n a.img.now c.mark_all.new.tally marks a.visited c.mark_all.ensures.tally
-          ∙ decided a.img.now a.time.0 a.from a.visited marks c.mark_all.ensures.marks g a.n c.requires.0.its_n
-          c.requires.2;
+          ∙ decided a.img.now a.time.0 a.span.from a.span.visited g a.span.n c.requires.0.its_n c.requires.2 c.mark_all.new.tally
+          c.mark_all.ensures.tally;
       marks = λ e. c.mark_all.ensures.marks;
       tally = λ e. c.mark_all.ensures.tally;
     }

@@ -7,11 +7,4 @@ use Rattle.keys.proofs.scavenge.give_scavenge.Goals as goal
 pub overflow_cast-result : goal.overflow_cast-result
 overflow_cast-result c =
     let a = c.args in
-    omega (arith, c.remove-count.ensures.gone, picked_few (marked a.marks.now a.from) a.from a.visited)
-
-pub returns : goal.returns
-returns c =
-    record {
-      answer = rw (c.done.ensures, c.price.ensures, c.key_at.ensures, c.remove-count.ensures.gone);
-      image = c.remove-count.ensures.image;
-    }
+    omega (arith, c.remove-count.ensures.gone, picked_few (marked a.marks.now a.span.from) a.span.from a.span.visited)

@@ -1,39 +1,23 @@
 -- `keys::scavenge::lower_counts` meets its contract. The invariant: what is yet to be lowered, lowered in the image as
 -- it is, gives the image as it shall be.
-use mathlib.Core.Path.{refl, ◌∙◌}
+use Prim.Native.Nat.{◌+◌, ◌-◌}
+use mathlib.Core.Path.{◌≡◌, ◌∙◌}
 use native.Mathlib.Omega.{arith}
 use Rattle.run.proofs.Turns.{each-end}
 use Rattle.keys.specs.Marks.{owes, lowered_by}
 use Rattle.keys.proofs.Marks.{pass_turn}
-use borrow.Author.Rules.{rules}
 use Rattle.keys.proofs.scavenge.lower_counts.Goals as goal
 
-pub loop-left-init : goal.loop-left-init
-loop-left-init c = (search rules, refl, refl)
-
-pub lower_one-requires : goal.lower_one-requires
-lower_one-requires c =
-    let l = c.loop-left in
-    let p = c.requires in
-    (record { number = p.0.number; size = l.invariant.1 ∙ p.0.size }, omega arith)
-
-pub loop-left-preserved : goal.loop-left-preserved
-loop-left-preserved c =
+pub loop-u-preserved : goal.loop-u-preserved
+loop-u-preserved c =
     let a = c.args in
-    let l = c.loop-left in (
-      omega arith,
-      c.lower_one.auto.img ∙ l.invariant.1,
-      rw c.lower_one.ensures (pass_turn (owes a.tally.now) (lowered_by a.n a.tally.now) l.img l.u l.left
-          (omega arith)
-          ∙ l.invariant.2),
-    )
+    let l = c.loop-u in
+    let z : 64 - l.u - 1 ≡ 64 - (l.u + 1) = omega arith in
+    let turn = pass_turn (owes a.tally.now) (lowered_by a.n a.tally.now) l.img l.u (64 - l.u) (omega arith) in
+    (c.lower_one.auto.img ∙ l.invariant.0, rw c.lower_one.ensures (rw z at turn ∙ l.invariant.1))
 
 pub returns : goal.returns
 returns c =
     let a = c.args in
-    let l = c.loop-left in
-    each-end (owes a.tally.now) (lowered_by a.n a.tally.now) l.img l.u l.left (omega arith)
-    ∙ l.invariant.2
-
-pub shape_of-img : goal.shape_of-img
-shape_of-img c = c.loop-left.invariant.1
+    let l = c.loop-u in
+    each-end (owes a.tally.now) (lowered_by a.n a.tally.now) l.img l.u (64 - l.u) (omega arith) ∙ l.invariant.1

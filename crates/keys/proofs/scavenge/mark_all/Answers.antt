@@ -1,43 +1,56 @@
 -- `keys::scavenge::mark_all` meets its contract. The invariant: the marks made so far are right, and the tally with
 -- those that are left is that of all.
-use mathlib.Core.Path.{refl, ◌∙◌}
+use Prim.Native.Nat.{◌+◌}
+use mathlib.Core.Path.{refl, ap, ◌∙◌}
 use native.Mathlib.Omega.{arith}
 use lib.ListN.{length-set}
+use Rattle.std.specs.Prelude.{Option, is_some}
+use Rattle.kinds.specs.declared.User.{User}
+use Rattle.keys.proofs.Marks.{owner_below, is_loser, client_loses}
 use Rattle.keys.proofs.Marks.{marked_on, tally_begun, tally_turn, tally_end, tally_few}
-use borrow.Author.Rules.{rules}
 use Rattle.keys.proofs.scavenge.mark_all.Goals as goal
 
 pub loop-i-init : goal.loop-i-init
-loop-i-init c = (
-  search rules,
-  refl,
-  refl,
-  λ j h. absurd (omega arith),
-  tally_begun _ c.args.visited c.args.tally.now c.requires.4,
-)
+loop-i-init c =
+    let a = c.args in (
+      refl,
+      refl,
+      λ j h. absurd (omega arith),
+      tally_begun a.img.now a.time.0 a.from a.visited a.tally.now c.requires.4,
+    )
 
-pub tally_mark-requires : goal.tally_mark-requires
-tally_mark-requires c =
-    let l = c.loop-i in (
-      l.invariant.2 ∙ c.requires.3,
-      λ u h. omega (arith, tally_few _ c.args.visited l.tally l.i l.invariant.4 u h, c.requires.1),
+pub tally_loss-requires : goal.tally_loss-requires
+tally_loss-requires c =
+    let a = c.args in
+    let l = c.loop-i in
+    let o = owner_below a.img.now a.time.0 a.from a.visited c.requires.5 (a.from + l.i) (omega arith) (omega arith) in (
+      l.invariant.1 ∙ c.requires.3,
+      λ u h. omega
+          (arith, tally_few a.img.now a.time.0 a.from a.visited l.tally l.i l.invariant.3 u h, c.requires.1),
+      rw c.loser-who.ensures (client_loses a.img.now a.time.0 (a.from + l.i) o),
     )
 
 pub loop-i-preserved : goal.loop-i-preserved
 loop-i-preserved c =
-    let l = c.loop-i in (
-      search rules,
-      length-set l.marks l.i c.mark-m.result ∙ l.invariant.1,
-      c.tally_mark.auto.tally ∙ l.invariant.2,
-      marked_on _ _ _ l.i l.marks _ (omega (arith, c.requires.2, l.invariant.1)) c.mark-m.ensures l.invariant.3,
-      rw c.tally_mark.ensures (tally_turn _ c.args.visited l.tally l.i _ (omega arith) c.mark-m.ensures
-          (l.invariant.2 ∙ c.requires.3) l.invariant.4),
+    let a = c.args in
+    let l = c.loop-i in
+    let b = a.from + l.i in
+    let o = owner_below a.img.now a.time.0 a.from a.visited c.requires.5 b (omega arith) (omega arith) in
+    let gone = c.is_some.ensures ∙ ap (λ (x : Option User). is_some x) c.loser-who.ensures
+    ∙ is_loser a.img.now a.time.0 b in (
+      length-set l.marks l.i c.is_some.result ∙ l.invariant.0,
+      c.tally_loss.auto.tally ∙ l.invariant.1,
+      marked_on a.img.now a.time.0 a.from l.i l.marks _ (omega (arith, c.requires.2, l.invariant.0)) gone
+          l.invariant.2,
+      rw (c.tally_loss.ensures, c.loser-who.ensures) (tally_turn a.img.now a.time.0 a.from a.visited l.tally l.i
+          (omega arith) (l.invariant.1 ∙ c.requires.3) o l.invariant.3),
     )
 
 pub returns : goal.returns
 returns c =
+    let a = c.args in
     let l = c.loop-i in
     record {
-      marks = λ i h. l.invariant.3 i (omega arith);
-      tally = tally_end _ _ l.tally l.marks l.i (omega arith) l.invariant.3 l.invariant.4;
+      marks = λ i h. l.invariant.2 i (omega arith);
+      tally = tally_end a.img.now a.time.0 a.from a.visited l.tally l.i (omega arith) l.invariant.3;
     }

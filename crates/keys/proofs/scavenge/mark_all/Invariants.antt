@@ -1,17 +1,15 @@
 -- `keys::scavenge::mark_all` meets its contract. The invariant: the marks made so far are right, and the tally with
 -- those that are left is that of all.
-use Prim.Native.Nat.{ℕ, ◌+◌, ◌-◌, ◌≤◌, ◌<◌}
+use Prim.Native.Nat.{ℕ, ◌+◌, ◌<◌}
 use mathlib.Core.Path.{◌≡◌}
+use mathlib.Core.Bool.{false}
 use lib.ListN.{length, get_or}
-use Rattle.keys.specs.Marks.{mark_of}
+use Rattle.promise.specs.Scavenge.{expired}
 use Rattle.keys.proofs.Marks.{Tallied}
 use Rattle.keys.proofs.scavenge.mark_all.Given as goal
 
 abbrev pub invariant-loop-i : goal.invariant-loop-i
 invariant-loop-i l =
-    (l.i ≤ l.visited) × (length l.marks ≡ length l.initial.marks) × (length l.tally ≡ length l.initial.tally)
-    × ((j : ℕ) → j < l.i → get_or l.marks j 0 ≡ mark_of l.img l.time.0 (l.from + j))
-    × Tallied (λ j. mark_of l.img l.time.0 (l.from + j)) l.visited l.tally l.i
-
-abbrev pub decreases-loop-i : goal.decreases-loop-i
-decreases-loop-i l = l.visited - l.i
+    (length l.marks ≡ length l.initial.marks) × (length l.tally ≡ length l.initial.tally)
+    × ((j : ℕ) → j < l.i → get_or l.marks j false ≡ expired l.img l.time.0 (l.from + j))
+    × Tallied l.img l.time.0 l.from l.visited l.tally l.i

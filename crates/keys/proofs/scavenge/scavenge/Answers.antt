@@ -1,13 +1,26 @@
--- `keys::scavenge::scavenge` meets its contract: the tests in front, and then `scavenge_of`.
-use mathlib.Core.Path.{sym, ◌∙◌}
-use Rattle.keys.proofs.Sweeps.{refuses-front}
+-- `keys::scavenge::scavenge` meets its contract: its tests, and then the stores.
+use mathlib.Core.Path.{refl, sym, ◌∙◌}
+use native.Mathlib.Omega.{arith}
+use Rattle.image.proofs.Checks.{zeros}
+use Rattle.keys.proofs.Sweeps.{refuses, room_for, sweeps}
 use Rattle.keys.proofs.scavenge.scavenge.Goals as goal
 
-pub scavenge_of-requires : goal.scavenge_of-requires
-scavenge_of-requires c =
-    sym c.changing-f.ensures ∙ c.in-Open.is
+pub tried-requires : goal.tried-requires
+tried-requires c = (refl, refl, zeros 64)
 
-pub returns-in-Shut : goal.returns-in-Shut
-returns-in-Shut c =
-    rw c.no_scavenge.ensures (refuses-front _ _ _ _ _ _ (sym c.changing-f.ensures
-    ∙ c.in-Shut.is))
+pub give_scavenge-requires : goal.give_scavenge-requires
+give_scavenge-requires c =
+    let t = c.tried in
+    let r = room_for _ _ _ _ _ (sym c.in-Ok.is ∙ t.ensures.report) t.new.marks
+    c.in-Ok.ensures.marks t.new.tally c.in-Ok.ensures.tally in
+    (r.0, r.1, r.2, t.auto.marks, t.auto.tally, r.3, r.4)
+
+pub returns-in-Err : goal.returns-in-Err
+returns-in-Err c = rw c.refused.ensures (refuses _ _ _ _ _ _ (sym c.in-Err.is ∙ c.tried.ensures.report))
+
+pub returns-in-Ok : goal.returns-in-Ok
+returns-in-Ok c =
+    let t = c.tried in
+    sweeps _ _ _ _ _ (sym c.in-Ok.is ∙ t.ensures.report) _ t.new.marks c.in-Ok.ensures.marks t.new.tally
+    c.in-Ok.ensures.tally (λ x. omega (arith, c.slice_known-1.given x)) _ _
+    c.give_scavenge.ensures.answer c.give_scavenge.ensures.image

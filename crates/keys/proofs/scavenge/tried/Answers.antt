@@ -1,0 +1,61 @@
+-- `keys::scavenge::tried` meets its contract: each return is an outcome of the tests.
+use mathlib.Core.Path.{sym, ◌∙◌}
+use native.Mathlib.Omega.{arith}
+use Rattle.front.proofs.Fronts.{rethrown, changing_known}
+use Rattle.keys.proofs.Entries.{below}
+use Rattle.keys.proofs.Sweeps.{tried_front, tried_asked, tried_damaged, tried_well, visited-reach}
+use Rattle.keys.proofs.scavenge.tried.Goals as goal
+
+pub returns-in_err-n : goal.returns-in_err-n
+returns-in_err-n c =
+    let e = rethrown c.from_residual.result c.in_err-n.field-0.0 c.from_residual.ensures.1 in record {
+      report = e ∙ tried_front _ _ _ _ _ (sym c.changing.ensures ∙ c.in_err-n.was);
+      marks = rw e tt;
+      tally = rw e tt;
+    }
+
+pub returns-in_err-managed : goal.returns-in_err-managed
+returns-in_err-managed c =
+    let r = c.in_err-managed.field-0.0 in
+    let e = rethrown c.from_residual-in_err-managed.result r c.from_residual-in_err-managed.ensures.1 in record {
+      report = e ∙ tried_asked _ _ _ _ _ (sym c.changing.ensures ∙ c.in_ok-n.was) r (sym c.managed.ensures
+          ∙ c.in_err-managed.was);
+      marks = rw e tt;
+      tally = rw e tt;
+    }
+
+pub reach-visited-requires : goal.reach-visited-requires
+reach-visited-requires c =
+    let k = below _ _ _ _ (sym c.managed.ensures ∙ c.in_ok-managed.was) in
+    omega arith
+
+pub decide-requires : goal.decide-requires
+decide-requires c =
+    let k = below _ _ _ _ (sym c.managed.ensures ∙ c.in_ok-managed.was) in (
+      changing_known _ _ _ _ _ (sym c.changing.ensures ∙ c.in_ok-n.was),
+      omega (arith, c.reach-visited.ensures),
+      c.reach-visited.ensures,
+      c.requires.0,
+      c.requires.1,
+      c.requires.2,
+    )
+
+pub returns-then-not-decide : goal.returns-then-not-decide
+returns-then-not-decide c = record {
+  report = tried_damaged _ _ _ _ _ (sym c.changing.ensures ∙ c.in_ok-n.was) (sym c.managed.ensures
+      ∙ c.in_ok-managed.was) _ c.reach-visited.ensures (sym c.decide.ensures.answer ∙ c.if-not-decide.true);
+  marks = tt;
+  tally = tt;
+}
+
+pub returns : goal.returns
+returns c =
+    let a = c.args in
+    let o = sym c.changing.ensures ∙ c.in_ok-n.was in
+    let z = sym c.managed.ensures ∙ c.in_ok-managed.was in
+    let well = c.if-not-decide.false in
+    let k = visited-reach a.img.now a.client.0 a.key a.time.0 _ o z _ c.reach-visited.ensures in record {
+      report = tried_well _ _ _ _ _ o z _ c.reach-visited.ensures (sym c.decide.ensures.answer ∙ well);
+      marks = rw k at (c.decide.ensures.marks well);
+      tally = rw k at (c.decide.ensures.tally well);
+    }
