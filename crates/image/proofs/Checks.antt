@@ -91,3 +91,9 @@ module _ (img : List ℕ) (t : Trailer) (e : trailer_answer img ≡ Some t) wher
 
   pub told_body : body_sound img ≡ sound_image img
   told_body = sym (split img ∙ rw its_trailer)
+
+-- ---- the cases of each
+
+pub ruleset body_cases = (bad_header, bad_spare, by_counts)
+
+pub ruleset check_cases = (told_bad, told_body)

@@ -1,14 +1,14 @@
 -- The eight headers of one byte of the map: where all are free they are good where their 512 bytes are zero, and add
 -- nothing to the tally; and the headers from one byte of the map on, in eights.
 -- Assumes nothing.
-use Rattle.std.proofs.Common.{◌≡◌, ℕ, zero, suc, ◌+◌, ◌-◌, ◌*◌, ◌/◌, ◌%◌, ◌<◌, ◌≤◌, Bool, true, false, List, length}
+use Rattle.std.proofs.Common.{◌≡◌, ℕ, zero, suc, ◌+◌, ◌-◌, ◌*◌, ◌/◌, ◌<◌, ◌≤◌, Bool, true, false, List, length}
 use Rattle.std.proofs.Common.{sym, refl, ap, ◌∙◌, arith}
 use Rattle.word.specs.Word.{part, word_at, all_zero}
 use Rattle.word.proofs.Laws.{part_split}
 use Rattle.word.proofs.Bytes.{all_zero_append}
 use Rattle.run.specs.Run.{all_of, times}
 use Rattle.run.proofs.Laws.{all_parts, all-each, all_same, picked_none}
-use Rattle.run.proofs.Turns.{all_end}
+use mathlib.Core.Bool.{and-true, and-false}
 use Rattle.promise.specs.Layout.{map_at}
 use Rattle.promise.specs.Header.{header_of, is_used}
 use Rattle.promise.proofs.HeaderLaws.{zero-unused}
@@ -68,23 +68,36 @@ module _ (img : List ℕ) (n clock i m : ℕ) (known : Known img n clock) (h : i
       rw (picked_none (λ b. is_used (header_of img b)) (8 * i) 8
       (λ b l v. zero-unused (header_of img b) (all-each (λ b. all_zero (header_of img b)) (8 * i) 8 b w l v)))
 
--- ---- all pass, in eights
+-- ---- all of a run pass, as far as a loop has come: number i, or the eight from 8 * i on
 
 module _ (p : ℕ → Bool) where
-  cut : (i k : ℕ) → 0 < k → 8 * k ≡ 8 + 8 * (k - 1)
-  cut i k h = omega arith
+  pub all_none : (b : ℕ) → all_of p b 0 ≡ true
+  unfolding all_of
+  all_none b = refl
 
-  pub eights_turn : (i k : ℕ) → 0 < k → all_of p (8 * i) 8 ≡ true
-      → all_of p (8 * (i + 1)) (8 * (k - 1)) ≡ all_of p (8 * i) (8 * k)
-  eights_turn i k h e =
-      let g : 8 * (i + 1) ≡ 8 * i + 8 = omega arith in
-      rw (cut i k h, all_parts p (8 * i) 8 (8 * (k - 1)), e, g)
+  parts_pass : (b k m i : ℕ) → i ≡ b + k → all_of p b k ≡ true → all_of p i m ≡ true → all_of p b (k + m) ≡ true
+  parts_pass b k m i q e f = rw (all_parts p b k m, e, ← q, f)
 
-  pub eights_stop : (i k : ℕ) → 0 < k → all_of p (8 * i) 8 ≡ false → false ≡ all_of p (8 * i) (8 * k)
-  eights_stop i k h e = rw (cut i k h, all_parts p (8 * i) 8 (8 * (k - 1)), e)
+  part_fails : (b k m i : ℕ) → b ≤ i → i + m ≤ b + k → all_of p i m ≡ false → all_of p b k ≡ false
+  part_fails b k m i h l e =
+      let q : k ≡ (i - b) + (m + (k - (i - b) - m)) = omega arith in
+      let r : b + (i - b) ≡ i = omega arith in
+      rw (q, all_parts p b (i - b) (m + (k - (i - b) - m)), r, all_parts p i m (k - (i - b) - m), e, and-false)
 
-  pub eights_end : (i k : ℕ) → k ≤ 0 → true ≡ all_of p (8 * i) (8 * k)
-  eights_end i k h = all_end p (8 * i) (8 * k) (omega arith)
+  only : (i : ℕ) → all_of p i 1 ≡ p i
+  unfolding all_of
+  only i = and-true (p i)
 
-  pub eights_whole : (n : ℕ) → n % 8 ≡ 0 → all_of p (8 * 0) (8 * (n / 8)) ≡ all_of p 0 n
-  eights_whole n e = let d : 8 * (n / 8) ≡ n = omega arith in rw d
+  pub all_more : (b k i : ℕ) → i ≡ b + k → all_of p b k ≡ true → p i ≡ true → all_of p b (k + 1) ≡ true
+  all_more b k i q e f = parts_pass b k 1 i q e (only i ∙ f)
+
+  pub all_fails : (b k i : ℕ) → b ≤ i → i < b + k → p i ≡ false → all_of p b k ≡ false
+  all_fails b k i h l e = part_fails b k 1 i h (omega arith) (only i ∙ e)
+
+  pub eights_more : (i : ℕ) → all_of p 0 (8 * i) ≡ true → all_of p (8 * i) 8 ≡ true → all_of p 0 (8 * (i + 1)) ≡ true
+  eights_more i e f =
+      let q : 8 * (i + 1) ≡ 8 * i + 8 = omega arith in
+      rw q (parts_pass 0 (8 * i) 8 (8 * i) (omega arith) e f)
+
+  pub eights_fail : (n i : ℕ) → i < n / 8 → all_of p (8 * i) 8 ≡ false → all_of p 0 n ≡ false
+  eights_fail n i h e = part_fails 0 n 8 (8 * i) (omega arith) (omega arith) e

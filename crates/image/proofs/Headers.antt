@@ -26,7 +26,7 @@ use Rattle.image.specs.Image.{Known, shape_tests, time_tests}
 
 -- ---- the rule of a used header in parts
 
-parts : (clock b : ℕ) (h : List ℕ)
+pub parts : (clock b : ℕ) (h : List ℕ)
     → used_right clock b h ≡ (all (shape_tests h) && (all (time_tests clock h)
     && eqb (id_in h) (id_of (created_of h) b)))
 unfolding all used_right
@@ -92,19 +92,9 @@ owner_word h x b e q s =
 pub created-by : (clock : ℕ) (h : List ℕ) → all (time_tests clock h) ≡ true → created_of h ≤ clock
 created-by clock h e = leb-true (created_of h) clock (nth (time_tests clock h) 1 e)
 
+pub ruleset used_parts = (parts, created-by)
+
 module _ (clock b : ℕ) (h : List ℕ) where
-  pub bad_shape : all (shape_tests h) ≡ false → false ≡ used_right clock b h
-  bad_shape e = sym (parts clock b h ∙ rw e)
-
-  pub bad_times_lem : all (shape_tests h) ≡ true → all (time_tests clock h) ≡ false → false ≡ used_right clock b h
-  bad_times_lem e f = sym (parts clock b h ∙ rw (e, f))
-
-  -- the id and created as they were read, and the id that was made of them
-  pub by_id : all (shape_tests h) ≡ true → all (time_tests clock h) ≡ true
-      → (id created made : ℕ) → id ≡ id_in h → created ≡ created_of h → made ≡ id_of created b
-      → eqb id made ≡ used_right clock b h
-  by_id e f id created made p q r = sym (parts clock b h ∙ rw (e, f, r, q, p))
-
   -- ---- good, by the map bit
 
   pub good-free : all_zero h ≡ good_header clock b true h
@@ -115,11 +105,7 @@ module _ (clock b : ℕ) (h : List ℕ) where
   unfolding good_header
   good-used = sym (rw (and-false, and-true))
 
--- the header of a block, lent from the image as it stands
-pub good-at : (img : List ℕ) (n clock b : ℕ) (f : Bool) → Known img n clock → f ≡ free n img b
-    → good_header clock b f (take (64 * b + 64 - 64 * b) (drop (64 * b) img)) ≡ good img b
-unfolding good header_of
-good-at img n clock b f k e = rw (lent-part img (64 * b) (64 * b + 64) 64 refl, k.its_n, k.its_clock, e)
+pub ruleset good_cases = (good-free, good-used)
 
 -- by the map bit
 pub good_is_zero : (img : List ℕ) (n clock b : ℕ) → Known img n clock → free n img b ≡ true
@@ -131,10 +117,6 @@ pub good_is_used : (img : List ℕ) (n clock b : ℕ) → Known img n clock → 
     → used_right clock b (header_of img b) ≡ good img b
 unfolding good
 good_is_used img n clock b k e = rw (k.its_n, k.its_clock, e) (good-used clock b (header_of img b))
-
-pub zero-at : (img : List ℕ) (b : ℕ) → all_zero (part img (64 * b) 64) ≡ all_zero (header_of img b)
-unfolding header_of
-zero-at img b = refl
 
 -- the shape of a header that is right for a used block
 pub right_shape : (clock b : ℕ) (h : List ℕ) → used_right clock b h ≡ true → all (shape_tests h) ≡ true

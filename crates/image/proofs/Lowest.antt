@@ -46,7 +46,7 @@ unfolding count_trailing_zeros
 none zero = refl
 none (suc k) = ap suc (none k)
 
--- ---- the k bytes from byte i of the map on
+-- ---- the k blocks from block i on, whose bits of the map are those of a number
 
 -- bit j of one byte, and of eight
 pub one_bits : (n : ℕ) (img : List ℕ) (i m : ℕ) → m ≡ word_at 1 img (map_at n + i) → (j : ℕ) → j < 8
@@ -57,46 +57,35 @@ one_bits n img i m e j l =
     let r : (8 * i + j) % 8 ≡ j = omega arith in
     rw (d, r, e)
 
-pub eight_bits : (n : ℕ) (img : List ℕ) (i m : ℕ) → Bytes img → map_at n + i + 8 ≤ length img
-    → m ≡ word_at 8 img (map_at n + i)
-    → (j : ℕ) → j < 64 → free n img (8 * i + j) ≡ bit_of m j
+pub eight_bits : (n : ℕ) (img : List ℕ) (i m : ℕ) → Bytes img → map_at n + 8 * i + 8 ≤ length img
+    → m ≡ word_at 8 img (map_at n + 8 * i)
+    → (j : ℕ) → j < 64 → free n img (64 * i + j) ≡ bit_of m j
 unfolding free bit_of
 eight_bits n img i m b h e j l =
-    let d : map_at n + (8 * i + j) / 8 ≡ map_at n + i + j / 8 = omega arith in
-    let r : (8 * i + j) % 8 ≡ j % 8 = omega arith in
-    rw (d, r, e, word_bit 8 img (map_at n + i) j b h l)
+    let d : map_at n + (64 * i + j) / 8 ≡ map_at n + 8 * i + j / 8 = omega arith in
+    let r : (64 * i + j) % 8 ≡ j % 8 = omega arith in
+    rw (d, r, e, word_bit 8 img (map_at n + 8 * i) j b h l)
 
-module _ (n : ℕ) (img : List ℕ) (i k m : ℕ) (bits : (j : ℕ) → j < 8 * k → free n img (8 * i + j)
-    ≡ bit_of m j) (h : i + k ≤ n / 8) where
-  its_first : first (free n img) (8 * i) (8 * k) ≡ 8 * i + first (bit_of m) 0 (8 * k)
-  its_first = rw add-zero at (first-moved (free n img) (bit_of m) (8 * i) 0 (8 * k) (λ x l u. bits x (omega arith)))
+module _ (n : ℕ) (img : List ℕ) (i k m : ℕ) (bits : (j : ℕ) → j < k → free n img (i + j) ≡ bit_of m j) (h : i + k
+    ≤ n) where
+  its_first : first (free n img) i k ≡ i + count_trailing_zeros k m
+  its_first =
+      rw add-zero at (first-moved (free n img) (bit_of m) i 0 k (λ x l u. bits x (omega arith)))
+      ∙ ap (λ (x : ℕ). i + x) (sym (lowest-first k m))
 
-  -- the blocks from there on are those of the k bytes and those from the next byte on
-  rest : n - 8 * i ≡ 8 * k + (n - 8 * (i + k))
+  -- the blocks from there on are those of the k bits and those after them
+  rest : n - i ≡ k + (n - (i + k))
   rest = omega arith
 
-  pub lowest_turn : m ≤ 0 → first (free n img) (8 * (i + k)) (n - 8 * (i + k)) ≡ first (free n img) (8 * i) (n - 8 * i)
-  lowest_turn l =
-      let q : m ≡ 0 = omega arith in
-      let z : 8 * (i + k) ≡ 8 * i + 8 * k = omega arith in
-      rw (
-        rest,
-        first_beyond (free n img) (8 * i) (8 * k) (n - 8 * (i + k)) (its_first
-            ∙ rw (← lowest-first (8 * k) m, q, none (8 * k))),
-        z,
-      )
+  pub lowest_turn : m ≡ 0 → first (free n img) (i + k) (n - (i + k)) ≡ first (free n img) i (n - i)
+  lowest_turn q =
+      rw (rest, first_beyond (free n img) i k (n - (i + k)) (its_first ∙ rw (q, none k)))
 
-  pub lowest-here : 0 < m → m < 2 ^ (8 * k) → 8 * i + first (bit_of m) 0 (8 * k)
-      ≡ first (free n img) (8 * i) (n - 8 * i)
-  lowest-here l u =
-      rw (
-        rest,
-        first_within (free n img) (8 * i) (8 * k) (n - 8 * (i + k))
-            (omega (arith, its_first, lowest-first (8 * k) m, trailing_lt (8 * k) m l u)),
-      )
+  pub lowest_here : 0 < m → m < 2 ^ k → i + count_trailing_zeros k m ≡ first (free n img) i (n - i)
+  lowest_here l u =
+      rw (rest, first_within (free n img) i k (n - (i + k)) (omega (arith, its_first, trailing_lt k m l u)))
       (sym its_first)
 
--- no byte is left
-pub lowest_end : (n : ℕ) (img : List ℕ) (i : ℕ) → n % 8 ≡ 0 → n / 8 ≤ i → i ≤ n / 8
-    → n ≡ first (free n img) (8 * i) (n - 8 * i)
-lowest_end n img i e l u = omega (arith, first_end (free n img) (8 * i) (n - 8 * i) (omega arith))
+-- no block is left
+pub lowest_end : (n : ℕ) (img : List ℕ) → n ≡ first (free n img) n (n - n)
+lowest_end n img = omega (arith, first_end (free n img) n (n - n) (omega arith))

@@ -1,9 +1,9 @@
 -- The tally of owners that Check keeps: what one header adds to it, and what it is after all headers.
 -- Assumes nothing.
-use Rattle.std.proofs.Common.{◌≡◌, ℕ, ◌+◌, ◌-◌, ◌*◌, ◌/◌, ◌%◌, ◌<◌, ◌≤◌, Bool, true, false, cond, eqb, List, map}
+use Rattle.std.proofs.Common.{◌≡◌, ℕ, ◌+◌, ◌-◌, ◌*◌, ◌<◌, ◌≤◌, Bool, true, false, cond, eqb, List, map}
 use Rattle.std.proofs.Common.{length, get_or, take, drop, set, sym, refl, ap, ◌∙◌, arith, length-set, get_or-set_other}
 use Rattle.std.proofs.Common.{get_or-set_same, eq-eqb, ne_eqb}
-use mathlib.Core.List.{map-append}
+use mathlib.Core.List.{append-nil, map-append}
 use native.Mathlib.Decide.{ℕ_discrete}
 use Rattle.plain.specs.Tests.{when}
 use Rattle.word.specs.Word.{all_zero}
@@ -72,59 +72,59 @@ module _ (img : List ℕ) where
           (raised t (owner_of (header_of img b)) u (c e) ∙ omega arith)
       go false e = rw (e, just_no (λ b. is_used (header_of img b)) b e) (omega arith)
 
-  -- ---- one turn, and the end
+  -- ---- as far as a loop has come
 
-  pub owners_turn : (b k u : ℕ) → 0 < k
-      → times u (owners_from img b k) ≡ times u (here b) + times u (owners_from img (b + 1) (k - 1))
-  owners_turn b k u h =
-      rw (picked_turn (λ b. is_used (header_of img b)) b k h, map-append)
-      (times_append u (here b) (owners_from img (b + 1) (k - 1)))
-
-  pub owners_end : (b k u : ℕ) → k ≤ 0 → times u (owners_from img b k) ≡ 0
+  pub owners_none : (b u : ℕ) → times u (owners_from img b 0) ≡ 0
   unfolding times
-  owners_end b k u h = rw (picked_end (λ b. is_used (header_of img b)) b k h)
+  owners_none b u = rw (picked_end (λ b. is_used (header_of img b)) b 0 (omega arith))
+
+  pub owners_more : (b k m u : ℕ)
+      → times u (owners_from img b (k + m)) ≡ times u (owners_from img b k) + times u (owners_from img (b + k) m)
+  owners_more b k m u =
+      rw (picked_append (λ b. is_used (header_of img b)) b k m, map-append)
+      (times_append u (owners_from img b k) (owners_from img (b + k) m))
+
+  owners_one : (b u : ℕ) → times u (owners_from img b 1) ≡ times u (here b)
+  owners_one b u =
+      rw (
+        picked_turn (λ b. is_used (header_of img b)) b 1 (omega arith),
+        picked_end (λ b. is_used (header_of img b)) (b + 1) (1 - 1) (omega arith),
+        append-nil,
+      )
 
   -- no more than there are headers
   pub few : (b k u : ℕ) → times u (owners_from img b k) ≤ k
   few b k u = rw (times-picked (λ b. is_used (header_of img b)) (λ b. owner_of (header_of img b)) u b k)
       (picked_few _ b k)
 
-  -- ---- the tally with what is left: a header on
-
-  pub visited : (b k : ℕ) (whole : ℕ → ℕ) (t t' : List ℕ) → 0 < k → good img b ≡ true → length t ≡ 64
-      → t' ≡ tallied (header_of img b) t
-      → ((u : ℕ) → get_or t u 0 + times u (owners_from img b k) ≡ whole u)
-      → (u : ℕ) → get_or t' u 0 + times u (owners_from img (b + 1) (k - 1)) ≡ whole u
-  visited b k whole t t' h g l e i u =
+  -- a header more
+  pub visited : (b k u x : ℕ) (t t' : List ℕ) → good img (b + k) ≡ true → length t ≡ 64
+      → t' ≡ tallied (header_of img (b + k)) t
+      → get_or t u 0 ≡ x + times u (owners_from img b k)
+      → get_or t' u 0 ≡ x + times u (owners_from img b (k + 1))
+  visited b k u x t t' g l e i =
       omega (
         arith,
         ap (λ r. get_or r u 0) e,
-        added b t u (λ q. omega (arith, client img b g q)),
-        owners_turn b k u h,
-        i u,
+        added (b + k) t u (λ q. omega (arith, client img (b + k) g q)),
+        owners_more b k 1 u,
+        owners_one (b + k) u,
+        i,
       )
 
-  -- eight headers on
+  -- eight headers more
+  pub owners_eight : (i u : ℕ)
+      → times u (owners_from img 0 (8 * (i + 1))) ≡ times u (owners_from img 0 (8 * i)) + times u
+      (owners_from img (8 * i) 8)
+  owners_eight i u =
+      let q : 8 * (i + 1) ≡ 8 * i + 8 = omega arith in
+      let z : 0 + 8 * i ≡ 8 * i = omega arith in
+      rw (q, owners_more 0 (8 * i) 8 u, z)
 
-  pub owners_eight : (i k u : ℕ) → 0 < k
-      → times u (owners_from img (8 * i) (8 * k))
-      ≡ times u (owners_from img (8 * i) 8) + times u (owners_from img (8 * (i + 1)) (8 * (k - 1)))
-  owners_eight i k u h =
-      let e : 8 * k ≡ 8 + 8 * (k - 1) = omega arith in
-      let g : 8 * (i + 1) ≡ 8 * i + 8 = omega arith in
-      rw (e, g, picked_append (λ b. is_used (header_of img b)) (8 * i) 8 (8 * (k - 1)), map-append)
-      (times_append u (owners_from img (8 * i) 8) (owners_from img (8 * i + 8) (8 * (k - 1))))
-
-  -- before the first
-
-  pub begun : (n : ℕ) (t : List ℕ) → n % 8 ≡ 0 → ((u : ℕ) → get_or t u 0 ≡ 0)
-      → (u : ℕ) → get_or t u 0 + times u (owners_from img (8 * 0) (8 * (n / 8))) ≡ times u (owners n img)
+  -- all
+  pub owners_all : (n u : ℕ) → times u (owners_from img 0 n) ≡ times u (owners n img)
   unfolding owners
-  begun n t e z u = let d : 8 * (n / 8) ≡ n = omega arith in rw (d, z u) (omega arith)
-
-  pub owners_few : (n u : ℕ) → times u (owners n img) ≤ n
-  unfolding owners
-  owners_few n u = few 0 n u
+  owners_all n u = refl
 
 -- ---- a free header is not tallied
 

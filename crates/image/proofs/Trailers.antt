@@ -2,7 +2,7 @@
 -- Assumes nothing.
 use Rattle.std.proofs.Common.{◌≡◌, ℕ, ◌-◌, ◌<◌, ◌≤◌, true, false, ◌&&◌, eqb, List, length, take, drop, sym, refl, ap}
 use Rattle.std.specs.Prelude.{Some, None}
-use Rattle.std.proofs.Common.{◌∙◌, ⊎_elim, arith, eq-eqb, ne_eqb}
+use Rattle.std.proofs.Common.{◌∙◌, ⊎_elim, arith, ne_eqb}
 use Rattle.plain.specs.Tests.{all, all_append, decide}
 use Rattle.word.specs.Word.{word_at}
 use Rattle.word.proofs.Lent.{lent-part}
@@ -13,7 +13,7 @@ use Rattle.image.specs.Image.{trailer_answer, distance_tests, rest_tests}
 
 -- ---- the rule in parts
 
-parts : (size : ℕ) (t : List ℕ)
+pub parts : (size : ℕ) (t : List ℕ)
     → right_trailer size t ≡ (number_right (word_at 4 t 0)
     && (eqb size (size_of (word_at 4 t 0)) && (all (distance_tests t (word_at 4 t 0)) && all (rest_tests t))))
 unfolding all right_trailer
@@ -22,15 +22,11 @@ parts size t =
     (all_append (distance_tests t (word_at 4 t 0)) (rest_tests t))
 
 module _ (size : ℕ) (t : List ℕ) (n : ℕ) (e : n ≡ word_at 4 t 0) where
-  pub bad_number : number_right n ≡ false → false ≡ right_trailer size t
+  bad_number : number_right n ≡ false → false ≡ right_trailer size t
   bad_number h = sym (parts size t ∙ rw (← e, h))
 
-  pub bad_size : number_right n ≡ true → (size ≡ size_of n → ⊥) → false ≡ right_trailer size t
+  bad_size : number_right n ≡ true → (size ≡ size_of n → ⊥) → false ≡ right_trailer size t
   bad_size h d = sym (parts size t ∙ rw (← e, h, ne_eqb size (size_of n) d))
-
-  pub the_rest : number_right n ≡ true → size ≡ size_of n
-      → (all (distance_tests t n) && all (rest_tests t)) ≡ right_trailer size t
-  the_rest h d = sym (parts size t ∙ rw (← e, h, eq-eqb size (size_of n) d))
 
 -- ---- what a reading answers
 

@@ -10,6 +10,7 @@ use crate::layout::{DISK_BLOCK, HEADER, MAP_AND_COUNTS, NUMBER, SERVICE_BLOCK, T
 use kinds::{BlockNum, User};
 use word::Number;
 
+#[tactic(auto, using(promise::proofs::CountLaws::count_at_lem))]
 pub fn count_of(img: &[u8], n: usize, u: User) -> u64
     requires { Laid img.now n × (u.0 < 64) }
     ensures { result ≡ count_of n img.now u.0 }
@@ -17,6 +18,7 @@ pub fn count_of(img: &[u8], n: usize, u: User) -> u64
     u64::get(img, HEADER * n + DISK_BLOCK + NUMBER * (u.0 as usize))
 }
 
+#[tactic(auto, unfolding(word::specs::Write::puts))]
 pub fn set_count(img: &mut [u8], n: usize, u: User, count: u64)
     requires { Laid img.old n × (u.0 < 64) }
     ensures { img.new ≡ puts img.old (count_set n u.0 count ∷ []) }

@@ -1,11 +1,12 @@
-// A block's header: 64 bytes, lent as a part of the image. Its fields, whether it is good, and its bytes written.
+// A block's header: its fields, whether it is good, and its bytes written.
 ghost use Rattle.std.specs.Prelude.{◌≡◌, ◌+◌, ◌*◌, ◌^◌, ◌<◌, ◌≤◌, [], ◌∷◌, length};
 ghost use Rattle.plain.specs.Tests.{all};
-ghost use Rattle.word.specs.Word.{bytes_of};
+ghost use Rattle.word.specs.Word.{bytes_of, all_zero, Bytes};
 ghost use Rattle.word.specs.Write.{over, puts};
 ghost use Rattle.kinds.specs.Kinds.{user, ident, tick};
 ghost use Rattle.promise.specs.Layout.{header_at};
-ghost use Rattle.promise.specs.Header.{owner_of, id_in, created_of, expires_of, is_used, used_right, good_header};
+ghost use Rattle.promise.specs.Header.{header_of, owner_of, id_in, created_of, expires_of, is_used, used_right};
+ghost use Rattle.promise.specs.Header.{good_header};
 ghost use Rattle.promise.specs.Header.{header_bytes};
 ghost use Rattle.promise.specs.Header.{header_zeroed};
 ghost use Rattle.promise.specs.Map.{good};
@@ -13,120 +14,132 @@ ghost use Rattle.promise.specs.Counts.{owned_by};
 ghost use Rattle.image.specs.Image.{Known, shape_tests, time_tests};
 
 use crate::layout::{CREATED_AT, EXPIRES_AT, HEADER, ID_AT, OWNER_AT, TAG_AT};
-use crate::{both, map};
+use crate::map;
 use kinds::limits::END_OF_TIME;
 use kinds::{BlockNum, Id, Tick, User};
 use word::Number;
 
-pub fn is_used(h: &[u8]) -> bool
-    requires { length h.now ≡ 64 }
-    ensures { result ≡ is_used h.now }
-{
-    u8::get(h, 0) == 1
+// The 64 bytes of a header, lent from the image.
+#[derive(Clone, Copy)]
+pub struct Header<'a> {
+    pub bytes: &'a [u8],
+    pub ghost whole: { length bytes.now ≡ 64 },
+    pub ghost octets: { Bytes bytes.now },
 }
 
-pub fn owner(h: &[u8]) -> User
-    requires { length h.now ≡ 64 }
-    ensures { result ≡ user (owner_of h.now) }
+// The header of a block.
+#[tactic(auto, using(crate::proofs::Tallies::lent_header))]
+pub fn of(img: &[u8], b: usize) -> Header<'_>
+    requires { header_at b + 64 ≤ length img.now }
+    ensures { result.bytes.now ≡ header_of img.now b }
 {
-    User(u8::get(h, OWNER_AT) as u32)
+    let at = HEADER * b;
+    let end = at + HEADER;
+    Header {
+        bytes: &img[at..end],
+    }
 }
 
-pub fn id(h: &[u8]) -> Id
-    requires { length h.now ≡ 64 }
-    ensures { result ≡ ident (id_in h.now) }
-{
-    Id(u64::get(h, ID_AT))
-}
+impl Header<'_> {
+    pub fn is_used(self) -> bool
+        ensures { result ≡ is_used self.entry.bytes.now }
+    {
+        u8::get(self.bytes, 0) == 1
+    }
 
-pub fn created(h: &[u8]) -> Tick
-    requires { length h.now ≡ 64 }
-    ensures { result ≡ tick (created_of h.now) }
-{
-    Tick(u64::get(h, CREATED_AT))
-}
+    pub fn owner(self) -> User
+        ensures { result ≡ user (owner_of self.entry.bytes.now) }
+    {
+        User(u8::get(self.bytes, OWNER_AT) as u32)
+    }
 
-pub fn expires(h: &[u8]) -> Tick
-    requires { length h.now ≡ 64 }
-    ensures { result ≡ tick (expires_of h.now) }
-{
-    Tick(u64::get(h, EXPIRES_AT))
+    pub fn id(self) -> Id
+        ensures { result ≡ ident (id_in self.entry.bytes.now) }
+    {
+        Id(u64::get(self.bytes, ID_AT))
+    }
+
+    pub fn created(self) -> Tick
+        ensures { result ≡ tick (created_of self.entry.bytes.now) }
+    {
+        Tick(u64::get(self.bytes, CREATED_AT))
+    }
+
+    pub fn expires(self) -> Tick
+        ensures { result ≡ tick (expires_of self.entry.bytes.now) }
+    {
+        Tick(u64::get(self.bytes, EXPIRES_AT))
+    }
+
+    #[tactic(auto, using(word::proofs::Laws::part_whole))]
+    pub fn is_zero(self) -> bool
+        ensures { result ≡ all_zero self.entry.bytes.now }
+    {
+        word::is_zero(self.bytes, 0, HEADER)
+    }
+
+    // The first 8 bytes as one number: less 1, and without the owner's six bits, it is 0. The difference keeps it one
+    // load.
+    fn shape_right(self) -> bool
+        ensures { result ≡ all (shape_tests self.entry.bytes.now) }
+    {
+        let x = u64::get(self.bytes, 0);
+        let y = std::num::wrapping_sub_u64(x, 1);
+        y - 256 * (y / 256 % 64) == 0 && word::is_zero(self.bytes, 48, 16)
+    }
+
+    #[tactic(auto, using(plain::specs::Tests::cascade), unfolding(plain::specs::Tests::all))]
+    fn times_right(self, clock: Tick) -> bool
+        ensures { result ≡ all (time_tests clock.0 self.entry.bytes.now) }
+    {
+        let created = u64::get(self.bytes, CREATED_AT);
+        let expires = u64::get(self.bytes, EXPIRES_AT);
+        1 <= created && created <= clock.0 && 1 <= expires && expires < END_OF_TIME
+    }
+
+    // Whether it is right for a used block.
+    #[tactic(auto, using(crate::proofs::Headers::used_parts))]
+    pub(crate) fn used_right(self, clock: Tick, b: BlockNum) -> bool
+        requires { (clock.0 < 2 ^ 40) × (b.0 < 4096) }
+        ensures { result ≡ used_right clock.0 b.0 self.entry.bytes.now }
+    {
+        self.shape_right()
+            && self.times_right(clock)
+            && self.id().0 == ident::make(self.created(), b).0
+    }
+
+    // Whether it is good, by the block's map bit.
+    #[tactic(auto, using(crate::proofs::Headers::good_cases))]
+    pub fn is_good(self, clock: Tick, b: BlockNum, free: bool) -> bool
+        requires { (clock.0 < 2 ^ 40) × (b.0 < 4096) }
+        ensures { result ≡ good_header clock.0 b.0 free self.entry.bytes.now }
+    {
+        if free {
+            self.is_zero()
+        } else {
+            self.used_right(clock, b)
+        }
+    }
 }
 
 // Whether a block is used and the client's.
+#[tactic(auto, unfolding(promise::specs::Counts::owned_by))]
 pub fn is_owned(img: &[u8], client: User, b: usize) -> bool
     requires { header_at b + 64 ≤ length img.now }
     ensures { result ≡ owned_by img.now client.0 b }
 {
-    let at = HEADER * b;
-    let end = at + HEADER;
-    let h = &img[at..end];
-    if !is_used(h) {
-        return false;
-    }
-    let his = owner(h);
-    his.0 == client.0
-}
-
-// The first 8 bytes as one number: less 1, and without the owner's six bits, it is 0. The difference keeps it one load.
-fn shape_right(h: &[u8]) -> bool
-    requires { length h.now ≡ 64 }
-    ensures { result ≡ all (shape_tests h.now) }
-{
-    let x = u64::get(h, 0);
-    let y = std::num::wrapping_sub_u64(x, 1);
-    both(y - 256 * (y / 256 % 64) == 0, word::is_zero(h, 48, 16))
-}
-
-fn times_right(h: &[u8], clock: Tick) -> bool
-    requires { length h.now ≡ 64 }
-    ensures { result ≡ all (time_tests clock.0 h.now) }
-{
-    let created = u64::get(h, CREATED_AT);
-    let expires = u64::get(h, EXPIRES_AT);
-    both(
-        1 <= created,
-        both(
-            created <= clock.0,
-            both(1 <= expires, both(expires < END_OF_TIME, true)),
-        ),
-    )
-}
-
-pub(crate) fn used_right(h: &[u8], clock: Tick, b: BlockNum) -> bool
-    requires { (length h.now ≡ 64) × (clock.0 < 2 ^ 40) × (b.0 < 4096) }
-    ensures { result ≡ used_right clock.0 b.0 h.now }
-{
-    if !shape_right(h) {
-        return false;
-    }
-    if !times_right(h, clock) {
-        return false;
-    }
-    let made = ident::make(created(h), b);
-    u64::get(h, ID_AT) == made.0
-}
-
-pub fn good_header(h: &[u8], clock: Tick, b: BlockNum, free: bool) -> bool
-    requires { (length h.now ≡ 64) × (clock.0 < 2 ^ 40) × (b.0 < 4096) }
-    ensures { result ≡ good_header clock.0 b.0 free h.now }
-{
-    if free {
-        word::is_zero(h, 0, HEADER)
-    } else {
-        used_right(h, clock, b)
-    }
+    let h = of(img, b);
+    h.is_used() && h.owner().0 == client.0
 }
 
 // Whether the header of a block is good, in the image as it stands.
+#[tactic(auto, unfolding(promise::specs::Map::good))]
 pub fn is_good(img: &[u8], n: usize, clock: Tick, b: BlockNum) -> bool
     requires { Known img.now n clock.0 × (b.0 < n) }
     ensures { result ≡ good img.now b.0 }
 {
     let free = map::is_free(img, n, b);
-    let at = HEADER * (b.0 as usize);
-    let end = at + HEADER;
-    good_header(&img[at..end], clock, b, free)
+    of(img, b.0 as usize).is_good(clock, b, free)
 }
 
 // The header of a used block.
@@ -154,6 +167,7 @@ pub fn put_header(
     word::clear(img, at + 48, 16)
 }
 
+#[tactic(auto, unfolding(word::specs::Write::puts))]
 pub fn zero_header(img: &mut [u8], b: BlockNum)
     requires { header_at b.0 + 64 ≤ length img.old }
     ensures { img.new ≡ puts img.old (header_zeroed b.0 ∷ []) }

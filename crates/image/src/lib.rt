@@ -3,8 +3,6 @@
 
 #![tactic(auto)]
 
-ghost use Rattle.std.specs.Prelude.{◌≡◌, ◌&&◌};
-
 pub mod counts;
 pub mod format;
 pub mod header;
@@ -12,10 +10,3 @@ pub mod layout;
 pub mod map;
 pub mod sound;
 pub mod trailer;
-
-// Both of two answers.
-pub(crate) fn both(a: bool, b: bool) -> bool
-    ensures { result ≡ (a && b) }
-{
-    if a { b } else { false }
-}

@@ -4,12 +4,13 @@ ghost use Rattle.kinds.specs.Kinds.{block_num};
 ghost use Rattle.word.specs.Write.{puts};
 ghost use Rattle.run.specs.Run.{first};
 ghost use Rattle.promise.specs.Map.{free, spare_zero, bit_taken, bit_freed};
-ghost use Rattle.image.specs.Image.{Laid, bit_of};
+ghost use Rattle.image.specs.Image.{Laid};
 
 use crate::layout::{DISK_BLOCK, HEADER};
 use kinds::BlockNum;
 use word::Number;
 
+#[tactic(auto, unfolding(promise::specs::Map::free))]
 pub fn is_free(img: &[u8], n: usize, b: BlockNum) -> bool
     requires { Laid img.now n × (b.0 < n) }
     ensures { result ≡ free n img.now b.0 }
@@ -20,6 +21,7 @@ pub fn is_free(img: &[u8], n: usize, b: BlockNum) -> bool
 }
 
 // Whether the bits from n on are 0.
+#[tactic(auto, unfolding(promise::specs::Map::spare_zero))]
 pub fn spare_zero(img: &[u8], n: usize) -> bool
     requires { Laid img.now n }
     ensures { result ≡ spare_zero n img.now }
@@ -59,31 +61,16 @@ pub fn free_bit(img: &mut [u8], n: usize, b: BlockNum)
     u8::put(img, at, ((m + w) % 256) as u8)
 }
 
-// The lowest bit of a byte that is 1, 8 where none is; and of a number of 8 bytes, 64 where none is.
-fn lowest_bit(m: u8) -> usize
-    ensures { result ≡ first (bit_of m) 0 8 }
-{
-    u8::trailing_zeros(m) as usize
-}
-
-fn lowest_bit64(m: u64) -> usize
-    ensures { result ≡ first (bit_of m) 0 64 }
-{
-    u64::trailing_zeros(m) as usize
-}
-
 // The lowest free block from byte `from` of the map on, n where there is none. Of a byte that is 0 no bit is looked at.
 fn free_from(img: &[u8], n: usize, from: usize) -> BlockNum
     requires { Laid img.now n × (from ≤ n / 8) }
     ensures { result ≡ block_num (first (free n img.now) (8 * from) (n - 8 * from)) }
 {
-    let mut i = from;
-    while i < n / 8 {
+    for i in from..n / 8 {
         let m = u8::get(img, HEADER * n + i);
-        if 0 < m {
-            return BlockNum((8 * i + lowest_bit(m)) as u32);
+        if m != 0 {
+            return BlockNum((8 * i + m.trailing_zeros() as usize) as u32);
         }
-        i += 1;
     }
     BlockNum(n as u32)
 }
@@ -93,13 +80,11 @@ pub fn lowest_free(img: &[u8], n: usize) -> BlockNum
     requires { Laid img.now n }
     ensures { result ≡ block_num (first (free n img.now) 0 n) }
 {
-    let mut i: usize = 0;
-    while i + 8 <= n / 8 {
-        let m = u64::get(img, HEADER * n + i);
-        if 0 < m {
-            return BlockNum((8 * i + lowest_bit64(m)) as u32);
+    for i in 0..n / 64 {
+        let m = u64::get(img, HEADER * n + 8 * i);
+        if m != 0 {
+            return BlockNum((64 * i + m.trailing_zeros() as usize) as u32);
         }
-        i += 8;
     }
-    free_from(img, n, i)
+    free_from(img, n, n / 64 * 8)
 }

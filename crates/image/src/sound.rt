@@ -10,20 +10,21 @@ ghost use Rattle.promise.specs.Counts.{owners};
 ghost use Rattle.promise.specs.Sound.{CheckPromise};
 ghost use Rattle.image.specs.Image.{Laid, Known, shape_tests, tallied, owners_from, same_count, body_sound};
 
+use crate::header::Header;
 use crate::layout::HEADER;
 use crate::trailer::Trailer;
 use crate::{counts, header, map, trailer};
-use kinds::limits::CLIENTS;
+use kinds::limits::{CLIENTS, LAST_CLIENT};
 use kinds::{BlockNum, Tick, User};
 use word::Number;
 
 // One block more for the owner of a used header: in its first 8 bytes, as one number, all that is above used.
-fn tally_owner(h: &[u8], tally: &mut [u32])
-    requires { (length h.now ≡ 64) × (length tally.old ≡ 64) × (all (shape_tests h.now) ≡ true)
+fn tally_owner(h: Header, tally: &mut [u32])
+    requires { (length tally.old ≡ 64) × (all (shape_tests h.bytes.now) ≡ true)
         × ((u : ℕ) → slice_index tally.old u ≤ 8192) }
-    ensures { tally.new ≡ tallied h.now tally.old }
+    ensures { tally.new ≡ tallied h.entry.bytes.now tally.old }
 {
-    let x = u64::get(h, 0);
+    let x = u64::get(h.bytes, 0);
     let u = (x / 256) as usize;
     let t = tally[u];
     tally[u] = t + 1;
@@ -37,15 +38,14 @@ fn visit(img: &[u8], n: usize, clock: Tick, b: BlockNum, bit: bool, tally: &mut 
     ensures tally { tally.new
         ≡ when result (tallied (header_of img.now b.0) tally.old) tally.old }
 {
-    let at = HEADER * (b.0 as usize);
+    let h = header::of(img, b.0 as usize);
     if bit {
-        return word::is_zero(img, at, HEADER);
+        return h.is_zero();
     }
-    let end = at + HEADER;
-    if !header::used_right(&img[at..end], clock, b) {
+    if !h.used_right(clock, b) {
         return false;
     }
-    tally_owner(&img[at..end], tally);
+    tally_owner(h, tally);
     true
 }
 
@@ -58,17 +58,12 @@ fn visit_each(img: &[u8], n: usize, clock: Tick, i: usize, m: u8, tally: &mut [u
         × ((u : ℕ) → slice_index tally.new u
         ≡ slice_index tally.old u + times u (owners_from img.now (8 * i) 8)) }
 {
-    let mut b: usize = 8 * i;
-    let mut j: usize = 0;
-    let mut left: usize = 8;
-    while 0 < left {
+    for j in 0..8 {
+        let b = BlockNum((8 * i + j) as u32);
         let bit = (m >> j) % 2 == 1;
-        if !visit(img, n, clock, BlockNum(b as u32), bit, tally) {
+        if !visit(img, n, clock, b, bit, tally) {
             return false;
         }
-        b += 1;
-        j += 1;
-        left -= 1;
     }
     true
 }
@@ -96,14 +91,10 @@ fn visit_all(img: &[u8], n: usize, clock: Tick, tally: &mut [u32]) -> bool
     ensures tally { result ≡ true → (length tally.new ≡ 64)
         × ((u : ℕ) → u < 64 → slice_index tally.new u ≡ times u (owners n img.now)) }
 {
-    let mut i: usize = 0;
-    let mut left = n / 8;
-    while 0 < left {
+    for i in 0..n / 8 {
         if !visit_eight(img, n, clock, i, tally) {
             return false;
         }
-        i += 1;
-        left -= 1;
     }
     true
 }
@@ -123,34 +114,26 @@ fn same_counts(img: &[u8], n: usize, tally: &[u32]) -> bool
     requires { Laid img.now n × (length tally.now ≡ 64) }
     ensures { result ≡ all_of (same_count n img.now tally.now) 0 64 }
 {
-    let mut u: u32 = 0;
-    let mut left: u32 = 64;
-    while 0 < left {
+    for u in 0..=LAST_CLIENT {
         if !same_count(img, n, User(u), tally) {
             return false;
         }
-        u += 1;
-        left -= 1;
     }
     true
 }
 
 // Whether all but the trailer is sound.
+#[tactic(auto, using(crate::proofs::Checks::body_cases))]
 fn body_sound(img: &[u8], n: usize, clock: Tick) -> bool
     requires { Known img.now n clock.0 }
     ensures { result ≡ body_sound img.now }
 {
     let mut tally = [0u32; CLIENTS];
-    if !visit_all(img, n, clock, &mut tally) {
-        return false;
-    }
-    if !map::spare_zero(img, n) {
-        return false;
-    }
-    same_counts(img, n, &tally)
+    visit_all(img, n, clock, &mut tally) && map::spare_zero(img, n) && same_counts(img, n, &tally)
 }
 
 // Check: whether an image is sound.
+#[tactic(auto, using(crate::proofs::Checks::check_cases))]
 pub fn check(img: &[u8]) -> bool
     ensures { CheckPromise img.now result }
 {

@@ -7,7 +7,6 @@ ghost use Rattle.promise.specs.Layout.{number_right};
 ghost use Rattle.promise.specs.Trailer.{right_trailer, clock_set};
 ghost use Rattle.image.specs.Image.{Laid, distance_tests, rest_tests, trailer_answer};
 
-use crate::both;
 use crate::layout::{
     ALL_BUT_BLOCKS, CLOCK_AT, DISK_BLOCK, EACH_BLOCK, MAP_AND_COUNTS, MARK, MARK_AT,
 };
@@ -23,10 +22,11 @@ pub struct Trailer {
 }
 
 // N is a multiple of 8 from 8 to 4,096.
+#[tactic(auto, using(plain::specs::Tests::cascade), unfolding(promise::specs::Layout::number_right))]
 pub fn number_right(n: usize) -> bool
     ensures { result ≡ number_right n }
 {
-    both(both(n % 8 == 0, LEAST_BLOCKS <= n), n <= MOST_BLOCKS)
+    n % 8 == 0 && LEAST_BLOCKS <= n && n <= MOST_BLOCKS
 }
 
 // Whether the 4 bytes at a place are this number.
@@ -37,48 +37,36 @@ fn is32(t: &[u8], at: usize, v: usize) -> bool
     u32::get(t, at) as usize == v
 }
 
+#[tactic(auto, using(plain::specs::Tests::cascade), unfolding(plain::specs::Tests::all))]
 fn distances_right(t: &[u8], n: usize) -> bool
     requires { (length t.now ≡ 512) × (n < 2 ^ 32) }
     ensures { result ≡ all (distance_tests t.now n) }
 {
-    both(
-        is32(t, 4, n / 8 + n + 2),
-        both(
-            is32(t, 8, n + 2),
-            both(is32(t, 12, n + 1), both(is32(t, 16, n), true)),
-        ),
-    )
+    is32(t, 4, n / 8 + n + 2) && is32(t, 8, n + 2) && is32(t, 12, n + 1) && is32(t, 16, n)
 }
 
+#[tactic(auto, using(plain::specs::Tests::cascade), unfolding(plain::specs::Tests::all, word::specs::Word::le))]
 fn rest_right(t: &[u8]) -> bool
     requires { length t.now ≡ 512 }
     ensures { result ≡ all (rest_tests t.now) }
 {
-    both(
-        word::is_zero(t, 20, 4),
-        both(
-            u64::get(t, CLOCK_AT) < END_OF_TIME,
-            both(
-                word::is_zero(t, 32, 476),
-                both(is32(t, MARK_AT, MARK as usize), true),
-            ),
-        ),
-    )
+    word::is_zero(t, 20, 4)
+        && u64::get(t, CLOCK_AT) < END_OF_TIME
+        && word::is_zero(t, 32, 476)
+        && is32(t, MARK_AT, MARK as usize)
 }
 
 // Whether 512 bytes are right as the trailer of an image of this size.
+#[tactic(auto, using(crate::proofs::Trailers::parts))]
 fn right_trailer(t: &[u8], size: usize) -> bool
     requires { length t.now ≡ 512 }
     ensures { result ≡ right_trailer size t.now }
 {
     let n = u32::get(t, 0) as usize;
-    if !number_right(n) {
-        return false;
-    }
-    if size != EACH_BLOCK * n + ALL_BUT_BLOCKS {
-        return false;
-    }
-    both(distances_right(t, n), rest_right(t))
+    number_right(n)
+        && size == EACH_BLOCK * n + ALL_BUT_BLOCKS
+        && distances_right(t, n)
+        && rest_right(t)
 }
 
 #[tactic(auto, using(crate::proofs::Trailers::trailer_cases))]
@@ -97,6 +85,7 @@ pub fn read_trailer(img: &[u8]) -> Option<Trailer>
 }
 
 // The clock becomes this time.
+#[tactic(auto, unfolding(word::specs::Write::puts))]
 pub fn set_clock(img: &mut [u8], n: usize, time: Tick)
     requires { Laid img.old n }
     ensures { img.new ≡ puts img.old (clock_set n time.0 ∷ []) }

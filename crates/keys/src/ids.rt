@@ -16,7 +16,7 @@ ghost use Rattle.keys.specs.Asked.{ids_rows, span};
 use crate::visit::Span;
 use crate::{key_at, reach, visit};
 use image::header;
-use image::layout::{HEADER, NUMBER};
+use image::layout::NUMBER;
 use image::trailer::Trailer;
 use kinds::limits::MOST_IDS;
 use kinds::{GetIdsAnswer, Report, User};
@@ -34,10 +34,7 @@ fn name_id(img: &[u8], client: User, b: usize, ids: &mut [u8], k: usize) -> usiz
     if !header::is_owned(img, client, b) {
         return k;
     }
-    let at = HEADER * b;
-    let end = at + HEADER;
-    let id = header::id(&img[at..end]);
-    u64::put(ids, NUMBER * k, id.0);
+    u64::put(ids, NUMBER * k, header::of(img, b).id().0);
     k + 1
 }
 

@@ -16,23 +16,21 @@ ghost use Rattle.keys.specs.Asked.{span};
 use crate::visit::Span;
 use crate::{key_at, managed, reach, visit};
 use image::header;
-use image::layout::{ENTRY, HEADER, PROFILE_ROOM};
+use image::header::Header;
+use image::layout::{ENTRY, PROFILE_ROOM};
 use image::trailer::Trailer;
 use kinds::{ProfileAnswer, Report, User};
 use tariff::Tariff;
 use word::Number;
 
 // The entry of a header: owner, created, expires.
-fn put_entry(buffer: &mut [u8], at: usize, h: &[u8])
-    requires { (at + 24 ≤ length buffer.old) × (length h.now ≡ 64) }
-    ensures { buffer.new ≡ over buffer.old at (entry_of h.now) }
+fn put_entry(buffer: &mut [u8], at: usize, h: Header)
+    requires { at + 24 ≤ length buffer.old }
+    ensures { buffer.new ≡ over buffer.old at (entry_of h.entry.bytes.now) }
 {
-    let owner = header::owner(h);
-    let created = header::created(h);
-    let expires = header::expires(h);
-    u64::put(buffer, at, owner.0 as u64);
-    u64::put(buffer, at + 8, created.0);
-    u64::put(buffer, at + 16, expires.0)
+    u64::put(buffer, at, h.owner().0 as u64);
+    u64::put(buffer, at + 8, h.created().0);
+    u64::put(buffer, at + 16, h.expires().0)
 }
 
 // Enters a block in the buffer, where it is used, after k entries; the number of entries then.
@@ -43,10 +41,8 @@ fn enter_block(img: &[u8], b: usize, buffer: &mut [u8], k: usize) -> usize
     ensures bytes { buffer.new
         ≡ over buffer.old (24 * k) (rows (profile_row img.now) (just (used img.now) b)) }
 {
-    let at = HEADER * b;
-    let end = at + HEADER;
-    let h = &img[at..end];
-    if !header::is_used(h) {
+    let h = header::of(img, b);
+    if !h.is_used() {
         return k;
     }
     put_entry(buffer, ENTRY * k, h);

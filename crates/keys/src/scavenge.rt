@@ -17,7 +17,6 @@ ghost use Rattle.keys.specs.Asked.{span};
 
 use crate::visit::Span;
 use crate::{key_at, managed, reach, visit};
-use image::layout::HEADER;
 use image::trailer::Trailer;
 use image::{counts, header, map, trailer};
 use kinds::limits::{CLIENTS, MOST_HEADERS};
@@ -29,17 +28,11 @@ fn loser(img: &[u8], time: Tick, b: usize) -> Option<User>
     requires { header_at b + 64 ≤ length img.now }
     ensures { result ≡ loser_of img.now time.0 b }
 {
-    let at = HEADER * b;
-    let end = at + HEADER;
-    let h = &img[at..end];
-    if !header::is_used(h) {
+    let h = header::of(img, b);
+    if !h.is_used() || time <= h.expires() {
         return None;
     }
-    let expires = header::expires(h);
-    if time.0 <= expires.0 {
-        return None;
-    }
-    Some(header::owner(h))
+    Some(h.owner())
 }
 
 // One more for a client that loses a block.

@@ -28,7 +28,6 @@ use Rattle.promise.proofs.RefusalLaws.{rising}
 use Rattle.promise.proofs.RowLaws.{clear}
 use Rattle.image.specs.Image.{Known, trailer_in}
 use Rattle.image.specs.declared.trailer.Trailer.{Trailer}
-use Rattle.image.proofs.Tallies.{lent_header}
 use Rattle.front.specs.Rows.{reading_rows, time_rows, changing_rows, front_of, answered}
 use Rattle.front.proofs.Fronts.{told_ok, err_more, ok_more, ok_err, reading_rising, changing_rising, reading_known}
 use Rattle.front.proofs.Fronts.{changing_known, is_admitted}
@@ -127,7 +126,6 @@ pub ruleset find_cases = (
   unused,
   another,
   there,
-  lent_header,
 )
 
 -- ---- all tests of Read and Status

@@ -5,7 +5,7 @@ use Prim.Native.Nat.{ℕ, ◌+◌, ◌-◌, ◌*◌, ◌/◌, ◌^◌, ◌≤◌
 use mathlib.Core.Path.{◌≡◌, ap, ◌∙◌}
 use mathlib.Core.List.{List, [], ◌∷◌}
 use native.Mathlib.Omega.{arith}
-use lib.ListN.{length, take, drop}
+use lib.ListN.{length}
 use Rattle.word.specs.Word.{part, le}
 use Rattle.word.specs.Write.{Write, puts, Within, Spares}
 use Rattle.word.proofs.Laws.{sizes, length_part, length-puts, frames}
@@ -18,7 +18,6 @@ use Rattle.promise.specs.Map.{free, map_byte, bit_taken, bit_freed}
 use Rattle.promise.specs.Counts.{count_set}
 use Rattle.promise.proofs.FieldLaws.{length-header_bytes}
 use Rattle.image.specs.Image.{Laid}
-use Rattle.image.proofs.Tallies.{lent_header}
 use Rattle.store.specs.Store.{block_writes, fill_writes}
 
 -- ---- the later of two times
@@ -41,13 +40,13 @@ later_fits time expiry h k = omega arith
 
 -- ---- a header's expires, as it was read
 
-pub lent_expires : (img : List ℕ) (b : ℕ) (x : Tick)
-    → x ≡ tick (expires_of (take (64 * b + 64 - 64 * b) (drop (64 * b) img))) → x.0 ≡ expires_of (header_of img b)
-lent_expires img b x e = rw lent_header at (ap (λ (y : Tick). y.0) e)
+pub lent_expires : (img : List ℕ) (b : ℕ) (h : List ℕ) → h ≡ header_of img b → (x : Tick) → x ≡ tick (expires_of h)
+    → x.0 ≡ expires_of (header_of img b)
+lent_expires img b h p x e = rw p at (ap (λ (y : Tick). y.0) e)
 
-pub lent_fits : (img : List ℕ) (b : ℕ) → expires_of (header_of img b) < 2 ^ 40 → (x : Tick)
-    → x ≡ tick (expires_of (take (64 * b + 64 - 64 * b) (drop (64 * b) img))) → x.0 < 2 ^ 40
-lent_fits img b h x e = rw (lent_expires img b x e) h
+pub lent_fits : (img : List ℕ) (b : ℕ) → expires_of (header_of img b) < 2 ^ 40 → (h : List ℕ) → h ≡ header_of img b
+    → (x : Tick) → x ≡ tick (expires_of h) → x.0 < 2 ^ 40
+lent_fits img b f h p x e = rw (lent_expires img b h p x e) f
 
 -- ---- writes that leave the map byte of a block
 

@@ -16,7 +16,6 @@ ghost use Rattle.store.specs.Store.{found, left_of};
 
 use crate::lookup;
 use crate::lookup::Found;
-use image::layout::HEADER;
 use image::{counts, header, map, trailer};
 use kinds::{BlockNum, DestroyAnswer, Id, Money, Report, Tick, User};
 use tariff::Tariff;
@@ -29,10 +28,8 @@ fn charge_of(t: Tariff, n: usize, b: BlockNum, time: Tick, img: &[u8]) -> Money
         (destroy_charge t (created_of (header_of img.now b.0))
         (expires_of (header_of img.now b.0)) time.0) }
 {
-    let at = HEADER * (b.0 as usize);
-    let end = at + HEADER;
-    let h = &img[at..end];
-    tariff::destroy_charge(t, header::created(h), header::expires(h), time)
+    let h = header::of(img, b.0 as usize);
+    tariff::destroy_charge(t, h.created(), h.expires(), time)
 }
 
 // The stores.

@@ -8,7 +8,6 @@ ghost use Rattle.front.specs.Rows.{reading_rows, changing_rows, answered};
 ghost use Rattle.store.specs.Store.{find_rows, own_rows, found};
 
 use image::header;
-use image::layout::HEADER;
 use image::trailer::Trailer;
 use kinds::{BlockNum, Id, Report, Tick, User};
 
@@ -32,10 +31,8 @@ fn find(id: Id, room: bool, t: Trailer, img: &[u8]) -> Result<BlockNum, Report>
     if !header::is_good(img, t.n, t.clock, b) {
         return Err(Report::Damaged);
     }
-    let at = HEADER * (b.0 as usize);
-    let end = at + HEADER;
-    let h = &img[at..end];
-    if !header::is_used(h) || header::id(h) != id {
+    let h = header::of(img, b.0 as usize);
+    if !h.is_used() || h.id() != id {
         return Err(Report::NoSuchBlock);
     }
     Ok(b)
@@ -66,9 +63,7 @@ pub(crate) fn seek_own(
 {
     let t = front::changing(client, expiry, time, img)?;
     let b = find(id, room, t, img)?;
-    let at = HEADER * (b.0 as usize);
-    let end = at + HEADER;
-    if header::owner(&img[at..end]) != client {
+    if header::of(img, b.0 as usize).owner() != client {
         return Err(Report::NotOwner);
     }
     Ok(Found { n: t.n, b })

@@ -4,7 +4,7 @@ ghost use Rattle.promise.specs.Replace.{ReplacePromise};
 use crate::lookup::Found;
 use crate::{block, lookup};
 use image::header;
-use image::layout::{HEADER, SERVICE_BLOCK};
+use image::layout::SERVICE_BLOCK;
 use kinds::{Id, ReplaceAnswer, Tick, User};
 use tariff::Tariff;
 
@@ -25,11 +25,9 @@ pub fn replace(
             id: Id(0),
         },
         Ok(Found { n, b }) => {
-            let at = HEADER * (b.0 as usize);
-            let end = at + HEADER;
-            let h = &img[at..end];
-            let expires = header::expires(h);
-            let charge = tariff::replace_charge(t, header::created(h), expires, time, expires);
+            let h = header::of(img, b.0 as usize);
+            let expires = h.expires();
+            let charge = tariff::replace_charge(t, h.created(), expires, time, expires);
             let made = ident::make(time, b);
             block::write(img, n, b, client, made, expires, bytes, time);
             ReplaceAnswer {

@@ -12,7 +12,6 @@ ghost use Rattle.image.specs.Image.{Laid};
 
 use crate::lookup::Found;
 use crate::{later_of, lookup};
-use image::layout::HEADER;
 use image::{header, trailer};
 use kinds::{BlockNum, Id, Money, SetExpiryAnswer, Tick, User};
 use tariff::Tariff;
@@ -26,10 +25,8 @@ fn charge_of(t: Tariff, n: usize, b: BlockNum, until: Tick, img: &[u8]) -> Money
         (expires_of (header_of img.now b.0)) (created_of (header_of img.now b.0))
         until.0) }
 {
-    let at = HEADER * (b.0 as usize);
-    let end = at + HEADER;
-    let h = &img[at..end];
-    tariff::set_expiry_charge(t, header::created(h), header::expires(h), until)
+    let h = header::of(img, b.0 as usize);
+    tariff::set_expiry_charge(t, h.created(), h.expires(), until)
 }
 
 // The stores.

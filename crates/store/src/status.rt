@@ -4,7 +4,6 @@ ghost use Rattle.promise.specs.Status.{StatusPromise};
 use crate::lookup;
 use crate::lookup::Found;
 use image::header;
-use image::layout::HEADER;
 use kinds::{Id, StatusAnswer, Tick, User};
 use tariff::Tariff;
 
@@ -19,14 +18,12 @@ pub fn status(t: Tariff, client: User, id: Id, img: &[u8]) -> StatusAnswer
             expires: Tick(0),
         },
         Ok(Found { b, .. }) => {
-            let at = HEADER * (b.0 as usize);
-            let end = at + HEADER;
-            let h = &img[at..end];
+            let h = header::of(img, b.0 as usize);
             StatusAnswer {
                 receipt: front::done(tariff::price(t.status)),
-                owner: header::owner(h),
-                created: header::created(h),
-                expires: header::expires(h),
+                owner: h.owner(),
+                created: h.created(),
+                expires: h.expires(),
             }
         }
     }

@@ -1,12 +1,9 @@
--- `image::map::lowest_free` meets its contract. The invariant: the lowest free block of those from byte `i` on is the
--- lowest of all.
-use Rattle.std.proofs.Common.{◌≡◌, ◌-◌, ◌*◌, ◌/◌, ◌≤◌}
+-- `image::map::lowest_free` meets its contract. The invariant: the lowest free block of those from 8 bytes `i` on is
+-- the lowest of all.
+use Rattle.std.proofs.Common.{◌≡◌, ◌-◌, ◌*◌}
 use Rattle.run.specs.Run.{first}
 use Rattle.promise.specs.Map.{free}
 use Rattle.image.proofs.map.lowest_free.Given as goal
 
 abbrev pub invariant-loop-i : goal.invariant-loop-i
-invariant-loop-i l = (l.i ≤ l.n / 8) × (first (free l.n l.img) (8 * l.i) (l.n - 8 * l.i) ≡ first (free l.n l.img) 0 l.n)
-
-abbrev pub decreases-loop-i : goal.decreases-loop-i
-decreases-loop-i l = l.n / 8 - l.i
+invariant-loop-i l = first (free l.n l.img) (64 * l.i) (l.n - 64 * l.i) ≡ first (free l.n l.img) 0 l.n

@@ -1,25 +1,17 @@
--- `image::sound::same_counts` meets its contract. The invariant: the answer is the answer for the clients that are
--- left.
-use Rattle.std.proofs.Common.{sym, refl, ◌∙◌, rules}
-use Rattle.run.proofs.Turns.{all_turn, all_stop, all_end}
+-- `image::sound::same_counts` meets its contract.
+use Rattle.std.proofs.Common.{sym, ◌∙◌, arith}
+use Rattle.image.proofs.Eights.{all_none, all_more, all_fails}
 use Rattle.image.proofs.sound.same_counts.Goals as goal
 
-pub loop-left-init : goal.loop-left-init
-loop-left-init c = (search rules, refl)
+pub loop-u-init : goal.loop-u-init
+loop-u-init c = all_none _ 0
 
 pub returns-then-not-same_count : goal.returns-then-not-same_count
 returns-then-not-same_count c =
-    all_stop _ c.loop-left.u c.loop-left.left c.loop-left-test.true (sym c.same_count.ensures
-    ∙ c.if-not-same_count.true)
-    ∙ c.loop-left.invariant.1
+    sym (all_fails _ 0 64 c.loop-u.u (omega arith) (omega arith) (sym c.same_count.ensures
+    ∙ c.if-not-same_count.true))
 
-pub loop-left-preserved : goal.loop-left-preserved
-loop-left-preserved c = (
-  search rules,
-  all_turn _ c.loop-left.u c.loop-left.left c.loop-left-test.true
-      (sym c.same_count.ensures ∙ c.if-not-same_count.false)
-      ∙ c.loop-left.invariant.1,
-)
-
-pub returns : goal.returns
-returns c = all_end _ c.loop-left.u c.loop-left.left c.loop-left-test.false ∙ c.loop-left.invariant.1
+pub loop-u-preserved : goal.loop-u-preserved
+loop-u-preserved c =
+    all_more _ 0 c.loop-u.u c.loop-u.u (omega arith) c.loop-u.invariant (sym c.same_count.ensures
+    ∙ c.if-not-same_count.false)

@@ -1,13 +1,8 @@
--- `image::sound::same_counts` meets its contract. The invariant: the answer is the answer for the clients that are
--- left.
-use Rattle.std.proofs.Common.{◌≡◌, ◌+◌}
+-- `image::sound::same_counts` meets its contract. The invariant: the counts of the clients so far are right.
+use Rattle.std.proofs.Common.{◌≡◌, true}
 use Rattle.run.specs.Run.{all_of}
 use Rattle.image.specs.Image.{same_count}
 use Rattle.image.proofs.sound.same_counts.Given as goal
 
-abbrev pub invariant-loop-left : goal.invariant-loop-left
-invariant-loop-left l = (l.u + l.left ≡ 64)
-    × (all_of (same_count l.n l.img l.tally) l.u l.left ≡ all_of (same_count l.n l.img l.tally) 0 64)
-
-abbrev pub decreases-loop-left : goal.decreases-loop-left
-decreases-loop-left l = l.left
+abbrev pub invariant-loop-u : goal.invariant-loop-u
+invariant-loop-u l = all_of (same_count l.n l.img l.tally) 0 l.u ≡ true

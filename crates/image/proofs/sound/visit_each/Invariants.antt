@@ -1,19 +1,13 @@
--- `image::sound::visit_each` meets its contract. The invariant: the answer is the answer for the headers that are left,
--- and the tally with the owners of those is the tally with the owners of all eight.
-use Rattle.std.proofs.Common.{◌≡◌, ℕ, ◌+◌, ◌*◌, length, get_or}
+-- `image::sound::visit_each` meets its contract. The invariant: the headers so far are good, and the tally has grown by
+-- theirs.
+use Rattle.std.proofs.Common.{◌≡◌, ℕ, ◌+◌, ◌*◌, true, length, get_or}
 use Rattle.run.specs.Run.{all_of, times}
 use Rattle.promise.specs.Map.{good}
 use Rattle.image.specs.Image.{owners_from}
 use Rattle.image.proofs.sound.visit_each.Given as goal
 
-abbrev pub invariant-loop-left : goal.invariant-loop-left
-invariant-loop-left l =
-    (l.b ≡ 8 * l.i + l.j)
-    × (l.j + l.left ≡ 8)
-    × (all_of (good l.img) l.b l.left ≡ all_of (good l.img) (8 * l.i) 8)
-    × (length l.tally ≡ 64)
-    × ((u : ℕ) → get_or l.tally u 0 + times u (owners_from l.img l.b l.left)
-    ≡ get_or l.initial.tally u 0 + times u (owners_from l.img (8 * l.i) 8))
-
-abbrev pub decreases-loop-left : goal.decreases-loop-left
-decreases-loop-left l = l.left
+abbrev pub invariant-loop-j : goal.invariant-loop-j
+invariant-loop-j l =
+    (length l.tally ≡ 64)
+    × (all_of (good l.img) (8 * l.i) l.j ≡ true)
+    × ((u : ℕ) → get_or l.tally u 0 ≡ get_or l.initial.tally u 0 + times u (owners_from l.img (8 * l.i) l.j))

@@ -1,6 +1,5 @@
 -- `store::lookup::seek_own` meets its contract.
 use Rattle.std.proofs.Common.{sym, ◌∙◌}
-use Rattle.image.proofs.Tallies.{lent_header}
 use Rattle.front.proofs.Fronts.{exit, changing_known}
 use Rattle.store.proofs.Lookups.{not_timely, not_there, there_within, another_owner, is_own}
 use Rattle.store.proofs.lookup.seek_own.Goals as goal
@@ -17,14 +16,14 @@ returns-in_err-b c =
     exit _ c.from_residual-in_err-b.ensures.1
     (not_there _ _ _ _ _ _ _ (sym c.changing.ensures ∙ c.in_ok-t.was) _ (sym c.find.ensures ∙ c.in_err-b.was))
 
-pub slice_bounds-owner-end : goal.slice_bounds-owner-end
-slice_bounds-owner-end c = there_within _ _ _ _ _ _ _ (sym c.changing.ensures ∙ c.in_ok-t.was) _
+pub of-requires : goal.of-requires
+of-requires c = there_within _ _ _ _ _ _ _ (sym c.changing.ensures ∙ c.in_ok-t.was) _
     (sym c.find.ensures ∙ c.in_ok-b.was)
 
 pub returns-then-ne : goal.returns-then-ne
 returns-then-ne c = sym (another_owner _ _ _ _ _ _ _ (sym c.changing.ensures ∙ c.in_ok-t.was) _
-    (sym c.find.ensures ∙ c.in_ok-b.was) _ (lent_header _ _) _ c.owner.ensures (sym c.ne.ensures ∙ c.if-ne.true))
+    (sym c.find.ensures ∙ c.in_ok-b.was) _ c.of.ensures _ c.owner.ensures (sym c.ne.ensures ∙ c.if-ne.true))
 
 pub returns : goal.returns
 returns c = sym (is_own _ _ _ _ _ _ _ (sym c.changing.ensures ∙ c.in_ok-t.was) _
-    (sym c.find.ensures ∙ c.in_ok-b.was) _ (lent_header _ _) _ c.owner.ensures (sym c.ne.ensures ∙ c.if-ne.false))
+    (sym c.find.ensures ∙ c.in_ok-b.was) _ c.of.ensures _ c.owner.ensures (sym c.ne.ensures ∙ c.if-ne.false))

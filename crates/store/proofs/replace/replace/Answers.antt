@@ -1,20 +1,19 @@
 -- `store::replace::replace` meets its contract.
 use Rattle.std.proofs.Common.{sym, ◌∙◌, arith, eqb-true}
-use Rattle.image.proofs.Tallies.{lent_header}
 use Rattle.front.proofs.Fronts.{done_at}
 use Rattle.store.proofs.Changes.{held, held_within, replace_refused, replace_done}
 use Rattle.store.proofs.Stores.{lent_expires, lent_fits}
 use Rattle.store.proofs.replace.replace.Goals as goal
 
-pub slice_bounds-h-end : goal.slice_bounds-h-end
-slice_bounds-h-end c =
+pub of-h-requires : goal.of-h-requires
+of-h-requires c =
     let h = held _ _ _ _ _ _ _ (sym c.seek_own.ensures ∙ c.in-Ok.is) in
     held_within _ _ _ h.laid h.below
 
 pub replace_charge-charge-requires : goal.replace_charge-charge-requires
 replace_charge-charge-requires c =
     let h = held _ _ _ _ _ _ _ (sym c.seek_own.ensures ∙ c.in-Ok.is) in
-    let e = lent_fits _ _ h.expires_fits _ c.expires-expires.ensures in
+    let e = lent_fits _ _ h.expires_fits _ c.of-h.ensures _ c.expires-expires.ensures in
     (omega (arith, e, h.time_fits), omega (arith, e))
 
 pub make-made-requires : goal.make-made-requires
@@ -34,6 +33,6 @@ pub returns-in-Ok : goal.returns-in-Ok
 returns-in-Ok c =
     replace_done _ _ _ _ _ _ _ _ _
     (held _ _ _ _ _ _ _ (sym c.seek_own.ensures ∙ c.in-Ok.is)) _ c.make-made.ensures _
-    (lent_expires _ _ _ c.expires-expires.ensures)
+    (lent_expires _ _ _ c.of-h.ensures _ c.expires-expires.ensures)
     (done_at _ _ _ c.done.ensures (c.replace_charge-charge.ensures
-    ∙ rw (c.created.ensures, lent_header _ _))) _ c.write.ensures
+    ∙ rw (c.created.ensures, c.of-h.ensures))) _ c.write.ensures
