@@ -39,14 +39,15 @@ fn name_id(img: &[u8], client: User, b: usize, ids: &mut [u8], k: usize) -> usiz
 }
 
 // Names the client's among the blocks visited; their number.
-fn name_ids(img: &[u8], client: User, from: usize, visited: usize, ids: &mut [u8]) -> usize
-    requires { (header_at (from + visited) ≤ length img.now)
-        × (length (picked (owned_by img.now client.0) from visited) ≤ 64)
-        × (8 * length (picked (owned_by img.now client.0) from visited) ≤ length ids.old) }
-    ensures entries { result ≡ length (picked (owned_by img.now client.0) from visited) }
+fn name_ids(img: &[u8], client: User, span: Span, ids: &mut [u8]) -> usize
+    requires { (header_at (span.from + span.visited) ≤ length img.now)
+        × (length (picked (owned_by img.now client.0) span.from span.visited) ≤ 64)
+        × (8 * length (picked (owned_by img.now client.0) span.from span.visited) ≤ length ids.old) }
+    ensures entries { result ≡ length (picked (owned_by img.now client.0) span.from span.visited) }
     ensures bytes { ids.new ≡ over ids.old 0
-        (rows (id_row img.now) (picked (owned_by img.now client.0) from visited)) }
+        (rows (id_row img.now) (picked (owned_by img.now client.0) span.from span.visited)) }
 {
+    let Span { from, visited, .. } = span;
     let mut k = 0;
     for b in from..from + visited {
         k = name_id(img, client, b, ids, k);
@@ -97,7 +98,7 @@ fn give_ids(t: Tariff, client: User, span: Span, ids: &mut [u8], img: &[u8]) -> 
         (rows (id_row img.now) (picked (owned_by img.now client.0) span.from span.visited)) }
 {
     let Span { n, from, visited } = span;
-    let entries = name_ids(img, client, from, visited, ids);
+    let entries = name_ids(img, client, span, ids);
     GetIdsAnswer {
         receipt: front::done(tariff::price(t.getids)),
         key: key_at(n, from + visited),

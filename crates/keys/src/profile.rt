@@ -50,13 +50,15 @@ fn enter_block(img: &[u8], b: usize, buffer: &mut [u8], k: usize) -> usize
 }
 
 // Enters the used blocks among those visited; their number.
-fn enter_blocks(img: &[u8], from: usize, visited: usize, buffer: &mut [u8]) -> usize
-    requires { (header_at (from + visited) ≤ length img.now) × (visited ≤ 64) × (1536 ≤ length buffer.old) }
-    ensures entries { result ≡ length (picked (used img.now) from visited) }
+fn enter_blocks(img: &[u8], span: Span, buffer: &mut [u8]) -> usize
+    requires { (header_at (span.from + span.visited) ≤ length img.now) × (span.visited ≤ 64)
+        × (1536 ≤ length buffer.old) }
+    ensures entries { result ≡ length (picked (used img.now) span.from span.visited) }
     ensures bytes { buffer.new
         ≡ over buffer.old 0
-        (rows (profile_row img.now) (picked (used img.now) from visited)) }
+        (rows (profile_row img.now) (picked (used img.now) span.from span.visited)) }
 {
+    let Span { from, visited, .. } = span;
     let mut k = 0;
     for b in from..from + visited {
         k = enter_block(img, b, buffer, k);
@@ -94,7 +96,7 @@ fn give_profile(t: Tariff, span: Span, buffer: &mut [u8], img: &[u8]) -> Profile
         (rows (profile_row img.now) (picked (used img.now) span.from span.visited)) }
 {
     let Span { n, from, visited } = span;
-    let entries = enter_blocks(img, from, visited, buffer);
+    let entries = enter_blocks(img, span, buffer);
     ProfileAnswer {
         receipt: front::done(tariff::price(t.profile)),
         key: key_at(n, from + visited),

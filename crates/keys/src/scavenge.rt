@@ -47,20 +47,14 @@ fn tally_loss(who: Option<User>, tally: &mut [u32])
 }
 
 // Marks the blocks visited, and counts those that each client loses.
-fn mark_all(
-    img: &[u8],
-    time: Tick,
-    from: usize,
-    visited: usize,
-    marks: &mut [bool],
-    tally: &mut [u32],
-)
-    requires { (header_at (from + visited) ≤ length img.now) × (visited ≤ 64) × (length marks.old ≡ 64)
+fn mark_all(img: &[u8], time: Tick, span: Span, marks: &mut [bool], tally: &mut [u32])
+    requires { (header_at (span.from + span.visited) ≤ length img.now) × (span.visited ≤ 64) × (length marks.old ≡ 64)
         × (length tally.old ≡ 64) × ((u : ℕ) → get_or tally.old u 0 ≡ 0)
-        × (visited_good img.now from visited ≡ true) }
-    ensures marks { Marks img.now time.0 from visited marks.new }
-    ensures tally { Tallies img.now time.0 from visited tally.new }
+        × (visited_good img.now span.from span.visited ≡ true) }
+    ensures marks { Marks img.now time.0 span.from span.visited marks.new }
+    ensures tally { Tallies img.now time.0 span.from span.visited tally.new }
 {
+    let Span { from, visited, .. } = span;
     for i in 0..visited {
         let who = loser(img, time, from + i);
         marks[i] = who.is_some();
@@ -105,12 +99,14 @@ fn free_one(img: &mut [u8], n: usize, b: usize, goes: bool) -> usize
 }
 
 // Zeroes the headers and frees the bits of the blocks that are to go, from the lowest; their number.
-fn free_blocks(img: &mut [u8], n: usize, from: usize, visited: usize, marks: &[bool]) -> usize
-    requires { Laid img.old n × (from + visited ≤ n) × (visited ≤ 64) × (length marks.now ≡ 64) }
-    ensures gone { result ≡ length (picked (marked marks.now from) from visited) }
-    ensures image { img.new ≡ each (freed n) img.old
-        (picked (marked marks.now from) from visited) }
+fn free_blocks(img: &mut [u8], span: Span, marks: &[bool]) -> usize
+    requires { Laid img.old span.n × (span.from + span.visited ≤ span.n) × (span.visited ≤ 64)
+        × (length marks.now ≡ 64) }
+    ensures gone { result ≡ length (picked (marked marks.now span.from) span.from span.visited) }
+    ensures image { img.new ≡ each (freed span.n) img.old
+        (picked (marked marks.now span.from) span.from span.visited) }
 {
+    let Span { n, from, visited } = span;
     let mut k = 0;
     for b in from..from + visited {
         k += free_one(img, n, b, marks[b - from]);
@@ -151,11 +147,10 @@ fn remove(img: &mut [u8], span: Span, time: Tick, marks: &[bool], tally: &[u32])
         tally.now span.from span.visited
         img.old }
 {
-    let Span { n, from, visited } = span;
-    trailer::set_clock(img, n, time);
-    let count = free_blocks(img, n, from, visited, marks);
+    trailer::set_clock(img, span.n, time);
+    let count = free_blocks(img, span, marks);
     if 0 < count {
-        lower_counts(img, n, tally);
+        lower_counts(img, span.n, tally);
     }
     count
 }
@@ -180,7 +175,7 @@ fn decide(
     if !visit::all_good(img, clock, span) {
         return false;
     }
-    mark_all(img, time, span.from, span.visited, marks, tally);
+    mark_all(img, time, span, marks, tally);
     has_counts(img, span.n, tally)
 }
 

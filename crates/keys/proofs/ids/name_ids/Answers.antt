@@ -14,19 +14,19 @@ name_id-k-requires c =
     let a = c.args in
     let l = c.loop-b in
     let p = owned_by a.img.now a.client.0 in
-    omega (arith, count_turn p l.b (a.from + a.visited - l.b) (omega arith))
+    omega (arith, count_turn p l.b (a.span.from + a.span.visited - l.b) (omega arith))
 
 pub loop-b-preserved : goal.loop-b-preserved
 loop-b-preserved c =
     let a = c.args in
     let l = c.loop-b in
     let p = owned_by a.img.now a.client.0 in
-    let h : 0 < a.from + a.visited - l.b = omega arith in
-    let z : a.from + a.visited - l.b - 1 ≡ a.from + a.visited - (l.b + 1) = omega arith in
-    let turn = rows-turn p (id_row a.img.now) 8 (length-id_row a.img.now) l.ids l.k l.b (a.from + a.visited - l.b) h
-    (omega (arith)) in (
+    let h : 0 < a.span.from + a.span.visited - l.b = omega arith in
+    let z : a.span.from + a.span.visited - l.b - 1 ≡ a.span.from + a.span.visited - (l.b + 1) = omega arith in
+    let turn = rows-turn p (id_row a.img.now) 8 (length-id_row a.img.now) l.ids l.k l.b
+    (a.span.from + a.span.visited - l.b) h (omega (arith)) in (
       c.name_id-k.auto.ids ∙ l.invariant.0,
-      omega (arith, rw z at (count_turn p l.b (a.from + a.visited - l.b) h)),
+      omega (arith, rw z at (count_turn p l.b (a.span.from + a.span.visited - l.b) h)),
       rw (c.name_id-k.ensures.bytes, c.name_id-k.ensures.entries) (rw z at turn ∙ l.invariant.2),
     )
 
@@ -35,8 +35,8 @@ returns c =
     let a = c.args in
     let l = c.loop-b in
     let p = owned_by a.img.now a.client.0 in
-    let h : a.from + a.visited - l.b ≤ 0 = omega arith in record {
-      entries = omega (arith, count_end p l.b (a.from + a.visited - l.b) h);
+    let h : a.span.from + a.span.visited - l.b ≤ 0 = omega arith in record {
+      entries = omega (arith, count_end p l.b (a.span.from + a.span.visited - l.b) h);
       bytes = sym (rows_end p (id_row a.img.now) 8 (length-id_row a.img.now) l.ids (8 * l.k) l.b
-          (a.from + a.visited - l.b) h) ∙ l.invariant.2;
+          (a.span.from + a.span.visited - l.b) h) ∙ l.invariant.2;
     }

@@ -12,7 +12,8 @@ use Rattle.keys.proofs.ids.name_ids.Given as goal
 abbrev pub invariant-loop-b : goal.invariant-loop-b
 invariant-loop-b l =
     (length l.ids ≡ length l.initial.ids)
-    × (l.k + length (picked (owned_by l.img l.client.0) l.b (l.from + l.visited - l.b))
-    ≡ length (picked (owned_by l.img l.client.0) l.from l.visited))
-    × (over l.ids (8 * l.k) (rows (id_row l.img) (picked (owned_by l.img l.client.0) l.b (l.from + l.visited - l.b)))
-    ≡ over l.initial.ids 0 (rows (id_row l.img) (picked (owned_by l.img l.client.0) l.from l.visited)))
+    × (l.k + length (picked (owned_by l.img l.client.0) l.b (l.fn.span.from + l.fn.span.visited - l.b))
+    ≡ length (picked (owned_by l.img l.client.0) l.fn.span.from l.fn.span.visited))
+    × (over l.ids (8 * l.k) (rows (id_row l.img)
+    (picked (owned_by l.img l.client.0) l.b (l.fn.span.from + l.fn.span.visited - l.b)))
+    ≡ over l.initial.ids 0 (rows (id_row l.img) (picked (owned_by l.img l.client.0) l.fn.span.from l.fn.span.visited)))

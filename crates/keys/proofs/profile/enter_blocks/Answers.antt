@@ -15,19 +15,20 @@ enter_block-k-requires c =
     let a = c.args in
     let l = c.loop-b in
     let p = used a.img.now in
-    omega (arith, count_turn p l.b (a.from + a.visited - l.b) (omega arith), picked_few p a.from a.visited)
+    let few = picked_few p a.span.from a.span.visited in
+    omega (arith, count_turn p l.b (a.span.from + a.span.visited - l.b) (omega arith), few)
 
 pub loop-b-preserved : goal.loop-b-preserved
 loop-b-preserved c =
     let a = c.args in
     let l = c.loop-b in
     let p = used a.img.now in
-    let h : 0 < a.from + a.visited - l.b = omega arith in
-    let z : a.from + a.visited - l.b - 1 ≡ a.from + a.visited - (l.b + 1) = omega arith in
+    let h : 0 < a.span.from + a.span.visited - l.b = omega arith in
+    let z : a.span.from + a.span.visited - l.b - 1 ≡ a.span.from + a.span.visited - (l.b + 1) = omega arith in
     let turn = rows-turn p (profile_row a.img.now) 24 (length-profile_row a.img.now) l.buffer l.k l.b
-    (a.from + a.visited - l.b) h (omega (arith, picked_few p a.from a.visited)) in (
+    (a.span.from + a.span.visited - l.b) h (omega (arith, picked_few p a.span.from a.span.visited)) in (
       c.enter_block-k.auto.buffer ∙ l.invariant.0,
-      omega (arith, rw z at (count_turn p l.b (a.from + a.visited - l.b) h)),
+      omega (arith, rw z at (count_turn p l.b (a.span.from + a.span.visited - l.b) h)),
       rw (c.enter_block-k.ensures.bytes, c.enter_block-k.ensures.entries) (rw z at turn ∙ l.invariant.2),
     )
 
@@ -36,8 +37,8 @@ returns c =
     let a = c.args in
     let l = c.loop-b in
     let p = used a.img.now in
-    let h : a.from + a.visited - l.b ≤ 0 = omega arith in record {
-      entries = omega (arith, count_end p l.b (a.from + a.visited - l.b) h);
+    let h : a.span.from + a.span.visited - l.b ≤ 0 = omega arith in record {
+      entries = omega (arith, count_end p l.b (a.span.from + a.span.visited - l.b) h);
       bytes = sym (rows_end p (profile_row a.img.now) 24 (length-profile_row a.img.now) l.buffer (24 * l.k) l.b
-          (a.from + a.visited - l.b) h) ∙ l.invariant.2;
+          (a.span.from + a.span.visited - l.b) h) ∙ l.invariant.2;
     }

@@ -12,7 +12,8 @@ use Rattle.keys.proofs.profile.enter_blocks.Given as goal
 abbrev pub invariant-loop-b : goal.invariant-loop-b
 invariant-loop-b l =
     (length l.buffer ≡ length l.initial.buffer)
-    × (l.k + length (picked (used l.img) l.b (l.from + l.visited - l.b))
-    ≡ length (picked (used l.img) l.from l.visited))
-    × (over l.buffer (24 * l.k) (rows (profile_row l.img) (picked (used l.img) l.b (l.from + l.visited - l.b)))
-    ≡ over l.initial.buffer 0 (rows (profile_row l.img) (picked (used l.img) l.from l.visited)))
+    × (l.k + length (picked (used l.img) l.b (l.fn.span.from + l.fn.span.visited - l.b))
+    ≡ length (picked (used l.img) l.fn.span.from l.fn.span.visited))
+    × (over l.buffer (24 * l.k) (rows (profile_row l.img)
+    (picked (used l.img) l.b (l.fn.span.from + l.fn.span.visited - l.b)))
+    ≡ over l.initial.buffer 0 (rows (profile_row l.img) (picked (used l.img) l.fn.span.from l.fn.span.visited)))

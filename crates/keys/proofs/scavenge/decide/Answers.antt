@@ -18,8 +18,8 @@ returns c =
     let a = c.args in
     let g = sym c.all_good.ensures ∙ c.if-not-all_good.false in record {
       answer = c.has_counts.ensures
-          ∙ decided a.img.now a.time.0 a.span.from a.span.visited g a.span.n c.requires.0.its_n c.requires.2 c.mark_all.new.tally
-          c.mark_all.ensures.tally;
+          ∙ decided a.img.now a.time.0 a.span.from a.span.visited g a.span.n c.requires.0.its_n c.requires.2
+          c.mark_all.new.tally c.mark_all.ensures.tally;
       marks = λ e. c.mark_all.ensures.marks;
       tally = λ e. c.mark_all.ensures.tally;
     }

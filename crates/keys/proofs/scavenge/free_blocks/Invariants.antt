@@ -10,7 +10,8 @@ use Rattle.keys.proofs.scavenge.free_blocks.Given as goal
 abbrev pub invariant-loop-b : goal.invariant-loop-b
 invariant-loop-b l =
     (length l.img ≡ length l.initial.img)
-    × (l.k + length (picked (marked l.marks l.from) l.b (l.from + l.visited - l.b))
-    ≡ length (picked (marked l.marks l.from) l.from l.visited))
-    × (each (freed l.n) l.img (picked (marked l.marks l.from) l.b (l.from + l.visited - l.b))
-    ≡ each (freed l.n) l.initial.img (picked (marked l.marks l.from) l.from l.visited))
+    × (l.k + length (picked (marked l.marks l.fn.span.from) l.b (l.fn.span.from + l.fn.span.visited - l.b))
+    ≡ length (picked (marked l.marks l.fn.span.from) l.fn.span.from l.fn.span.visited))
+    × (each (freed l.fn.span.n) l.img
+    (picked (marked l.marks l.fn.span.from) l.b (l.fn.span.from + l.fn.span.visited - l.b))
+    ≡ each (freed l.fn.span.n) l.initial.img (picked (marked l.marks l.fn.span.from) l.fn.span.from l.fn.span.visited))

@@ -16,34 +16,35 @@ loop-i-init c =
       refl,
       refl,
       λ j h. absurd (omega arith),
-      tally_begun a.img.now a.time.0 a.from a.visited a.tally.now c.requires.4,
+      tally_begun a.img.now a.time.0 a.span.from a.span.visited a.tally.now c.requires.4,
     )
 
 pub tally_loss-requires : goal.tally_loss-requires
 tally_loss-requires c =
     let a = c.args in
     let l = c.loop-i in
-    let o = owner_below a.img.now a.time.0 a.from a.visited c.requires.5 (a.from + l.i) (omega arith) (omega arith) in (
+    let o = owner_below a.img.now a.time.0 a.span.from a.span.visited c.requires.5 (a.span.from + l.i)
+    (omega arith) (omega arith) in (
       l.invariant.1 ∙ c.requires.3,
       λ u h. omega
-          (arith, tally_few a.img.now a.time.0 a.from a.visited l.tally l.i l.invariant.3 u h, c.requires.1),
-      rw c.loser-who.ensures (client_loses a.img.now a.time.0 (a.from + l.i) o),
+          (arith, tally_few a.img.now a.time.0 a.span.from a.span.visited l.tally l.i l.invariant.3 u h, c.requires.1),
+      rw c.loser-who.ensures (client_loses a.img.now a.time.0 (a.span.from + l.i) o),
     )
 
 pub loop-i-preserved : goal.loop-i-preserved
 loop-i-preserved c =
     let a = c.args in
     let l = c.loop-i in
-    let b = a.from + l.i in
-    let o = owner_below a.img.now a.time.0 a.from a.visited c.requires.5 b (omega arith) (omega arith) in
+    let b = a.span.from + l.i in
+    let o = owner_below a.img.now a.time.0 a.span.from a.span.visited c.requires.5 b (omega arith) (omega arith) in
     let gone = c.is_some.ensures ∙ ap (λ (x : Option User). is_some x) c.loser-who.ensures
     ∙ is_loser a.img.now a.time.0 b in (
       length-set l.marks l.i c.is_some.result ∙ l.invariant.0,
       c.tally_loss.auto.tally ∙ l.invariant.1,
-      marked_on a.img.now a.time.0 a.from l.i l.marks _ (omega (arith, c.requires.2, l.invariant.0)) gone
+      marked_on a.img.now a.time.0 a.span.from l.i l.marks _ (omega (arith, c.requires.2, l.invariant.0)) gone
           l.invariant.2,
-      rw (c.tally_loss.ensures, c.loser-who.ensures) (tally_turn a.img.now a.time.0 a.from a.visited l.tally l.i
-          (omega arith) (l.invariant.1 ∙ c.requires.3) o l.invariant.3),
+      rw (c.tally_loss.ensures, c.loser-who.ensures) (tally_turn a.img.now a.time.0 a.span.from a.span.visited l.tally
+          l.i (omega arith) (l.invariant.1 ∙ c.requires.3) o l.invariant.3),
     )
 
 pub returns : goal.returns
@@ -52,5 +53,5 @@ returns c =
     let l = c.loop-i in
     record {
       marks = λ i h. l.invariant.2 i (omega arith);
-      tally = tally_end a.img.now a.time.0 a.from a.visited l.tally l.i (omega arith) l.invariant.3;
+      tally = tally_end a.img.now a.time.0 a.span.from a.span.visited l.tally l.i (omega arith) l.invariant.3;
     }
