@@ -23,7 +23,7 @@ use Rattle.kinds.specs.declared.Tick.{Tick}
 use Rattle.tariff.specs.Charges.{profile_charge}
 use Rattle.tariff.specs.declared.Tariff.{Tariff}
 use Rattle.promise.specs.Trailer.{n_of, clock_of, trailer_right}
-use Rattle.promise.specs.Header.{is_used}
+use Rattle.promise.specs.Header.{header_of, is_used}
 use Rattle.promise.specs.Refusals.{Row, row, lowest, succeeds, receipt, refusal}
 use Rattle.promise.proofs.RefusalLaws.{rising}
 use Rattle.promise.proofs.RowLaws.{clear}
@@ -32,7 +32,6 @@ use Rattle.promise.specs.Profile.{profiled, profile_row, profile_rows, profile_r
 use Rattle.promise.specs.Profile.{ProfilePromise}
 use Rattle.image.specs.Image.{trailer_in, Laid}
 use Rattle.image.proofs.Checks.{known}
-use Rattle.image.proofs.Tallies.{lent_header}
 use Rattle.image.proofs.Pieces.{next}
 use Rattle.front.specs.Rows.{reading_rows, front_of, answered}
 use Rattle.image.specs.declared.trailer.Trailer.{Trailer}
@@ -41,7 +40,6 @@ use Rattle.keys.specs.Visit.{used, entry_of}
 use Rattle.keys.specs.Asked.{manager_rows, span}
 use Rattle.keys.specs.declared.visit.Span.{Span}
 use Rattle.keys.proofs.Rows.{in_front, by-numbers, by-headers, Clear, clears}
-use Rattle.image.proofs.Lent.{lent}
 
 -- an entry has 24 bytes
 pub length-profile_row : (img : List ℕ) (b : ℕ) → length (profile_row img b) ≡ 24
@@ -73,26 +71,27 @@ below n client key small z = (fit n client key small [] (clears (manager_rows n 
 -- ---- one block
 
 module _ (img : List ℕ) (b : ℕ) (buffer : List ℕ) (k : ℕ) where
-  pub not_entered : is_used (lent img b) ≡ false
-      → (k ≡ k + one (used img) b) × (buffer ≡ over buffer (24 * k) (rows (profile_row img) (just (used img) b)))
-  not_entered f =
-      let e = rw (lent_header img b) at f in (
-        omega (arith, one_no (used img) b e),
-        sym
-            (rw (row-no (used img) (profile_row img) b e) (over_nil buffer (24 * k))),
-      )
+  -- its header as it was lent
+  module _ (h : List ℕ) (p : h ≡ header_of img b) where
+    pub not_entered : is_used h ≡ false
+        → (k ≡ k + one (used img) b) × (buffer ≡ over buffer (24 * k) (rows (profile_row img) (just (used img) b)))
+    not_entered f =
+        let e = rw p at f in (
+          omega (arith, one_no (used img) b e),
+          sym
+              (rw (row-no (used img) (profile_row img) b e) (over_nil buffer (24 * k))),
+        )
 
-  pub is_one : is_used (lent img b) ≡ true → one (used img) b ≡ 1
-  is_one f = one_yes (used img) b (rw (lent_header img b) at f)
+    pub is_one : is_used h ≡ true → one (used img) b ≡ 1
+    is_one f = one_yes (used img) b (rw p at f)
 
-  pub entered : is_used (lent img b) ≡ true
-      → (k + 1 ≡ k + one (used img) b) ×
-      (over buffer (24 * k) (entry_of (lent img b))
-      ≡ over buffer (24 * k) (rows (profile_row img) (just (used img) b)))
-  unfolding profile_row
-  entered f =
-      let e = rw (lent_header img b) at f in
-      (omega (arith, is_one f), sym (rw (row-yes (used img) (profile_row img) b e, lent_header img b)))
+    pub entered : is_used h ≡ true
+        → (k + 1 ≡ k + one (used img) b) ×
+        (over buffer (24 * k) (entry_of h) ≡ over buffer (24 * k) (rows (profile_row img) (just (used img) b)))
+    unfolding profile_row
+    entered f =
+        let e = rw p at f in
+        (omega (arith, is_one f), sym (rw (row-yes (used img) (profile_row img) b e, p)))
 
 -- ---- the report
 

@@ -32,7 +32,6 @@ use Rattle.promise.specs.GetIds.{get_ids_buffer}
 use Rattle.promise.specs.GetIds.{GetIdsPromise}
 use Rattle.image.specs.Image.{trailer_in, Laid}
 use Rattle.image.proofs.Checks.{known}
-use Rattle.image.proofs.Tallies.{lent_header}
 use Rattle.front.specs.Rows.{reading_rows, front_of, answered}
 use Rattle.image.specs.declared.trailer.Trailer.{Trailer}
 use Rattle.front.proofs.Fronts.{told_err, told_ok, reading_rising}
@@ -40,7 +39,6 @@ use Rattle.keys.specs.Visit.{visited_of}
 use Rattle.keys.specs.Asked.{ids_rows, span}
 use Rattle.keys.specs.declared.visit.Span.{Span}
 use Rattle.keys.proofs.Rows.{in_front, by-numbers, by-headers, Clear, clears}
-use Rattle.image.proofs.Lent.{lent}
 use Rattle.keys.proofs.Visits.{told_bad, told-good}
 
 -- an entry has 8 bytes
@@ -82,14 +80,14 @@ module _ (img : List ℕ) (client b : ℕ) (ids : List ℕ) (k : ℕ) where
         (rw (row-no (owned_by img client) (id_row img) b e) (over_nil ids (8 * k))),
   )
 
-  pub named : (id : ℕ) → owned_by img client b ≡ true → id ≡ id_in (lent img b)
+  pub named : (h : List ℕ) → h ≡ header_of img b → (id : ℕ) → owned_by img client b ≡ true → id ≡ id_in h
       → (k + 1 ≡ k + one (owned_by img client) b)
       × (over ids (8 * k) (bytes_of 8 id) ≡ over ids (8 * k) (rows (id_row img) (just (owned_by img client) b)))
   unfolding id_row
-  named id e q = (
+  named h p id e q = (
     omega (arith, one_yes (owned_by img client) b e),
     sym
-        (rw (row-yes (owned_by img client) (id_row img) b e, q, lent_header img b)),
+        (rw (row-yes (owned_by img client) (id_row img) b e, q, p)),
   )
 
 -- ---- the report

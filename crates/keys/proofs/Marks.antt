@@ -11,7 +11,7 @@ use lib.Dec.{eqb, ltb}
 use lib.ListN.{length, get_or, set}
 use lib.Seq.{get_or-set_same, get_or-set_other}
 use Rattle.std.specs.Prelude.{Some, None, is_some, IfSome}
-use Rattle.kinds.specs.Kinds.{user}
+use Rattle.kinds.specs.Kinds.{user, tick}
 use Rattle.kinds.specs.declared.User.{User}
 use Rattle.plain.specs.Tests.{when, both}
 use Rattle.word.specs.Write.{puts}
@@ -24,33 +24,36 @@ use Rattle.promise.specs.Keys.{visited_good}
 use Rattle.promise.specs.Map.{good}
 use Rattle.promise.proofs.HeaderLaws.{client}
 use Rattle.promise.specs.Scavenge.{expired}
-use Rattle.image.proofs.Tallies.{lent_header}
+use Rattle.kinds.specs.declared.Tick.{Tick}
 use Rattle.keys.specs.Marks.{loser_of, loses, marked, raised_by, freed, removed_by, owes, Marks, Tallies}
-use Rattle.image.proofs.Lent.{lent}
 use Rattle.run.proofs.Tally.{picked_mono, picked_same}
 
 -- ---- the client that loses a block
 
 module _ (img : List ℕ) (time b : ℕ) where
-  pub loser-unused : is_used (lent img b) ≡ false → None ≡ loser_of img time b
-  unfolding loser_of expired
-  loser-unused f = sym (rw (rw (lent_header img b) at f))
+  -- its header as it was lent
+  module _ (h : List ℕ) (p : h ≡ header_of img b) where
+    pub loser-unused : is_used h ≡ false → None ≡ loser_of img time b
+    unfolding loser_of expired
+    loser-unused f = sym (rw (rw p at f))
 
-  pub loser_stays : (expires : ℕ) → expires ≡ expires_of (lent img b) → time ≤ expires → None ≡ loser_of img time b
-  unfolding loser_of expired
-  loser_stays expires e h =
-      let g : ltb (expires_of (header_of img b)) time
-      ≡ false = le-ltb (expires_of (header_of img b)) time (omega (arith, rw (lent_header img b) at e)) in
-      sym (rw (g, and-false (is_used (header_of img b))))
+    module _ (expires : Tick) (e : expires ≡ tick (expires_of h)) where
+      its_expires : expires_of (header_of img b) ≡ expires.0
+      its_expires = rw ← p (sym (ap (λ (x : Tick). x.0) e))
 
-  pub loser_goes : is_used (lent img b) ≡ true → (expires : ℕ) → expires ≡ expires_of (lent img b) → expires < time
-      → (owner : User) → owner ≡ user (owner_of (lent img b)) → Some owner ≡ loser_of img time b
-  unfolding loser_of expired
-  loser_goes f expires e h owner o =
-      let g : ltb (expires_of (header_of img b)) time
-      ≡ true = lt-ltb (expires_of (header_of img b)) time (omega (arith, rw (lent_header img b) at e)) in
-      let p = rw (lent_header img b) at o in
-      sym (rw (rw (lent_header img b) at f, g) (ap (λ (x : User). Some x) (sym p)))
+      pub loser_stays : time ≤ expires.0 → None ≡ loser_of img time b
+      unfolding loser_of expired
+      loser_stays l =
+          let g : ltb (expires_of (header_of img b)) time ≡ false = rw its_expires (le-ltb expires.0 time l) in
+          sym (rw (g, and-false (is_used (header_of img b))))
+
+      pub loser_goes : is_used h ≡ true → expires.0 < time → (owner : User) → owner ≡ user (owner_of h)
+          → Some owner ≡ loser_of img time b
+      unfolding loser_of expired
+      loser_goes f l owner o =
+          let g : ltb (expires_of (header_of img b)) time ≡ true = rw its_expires (lt-ltb expires.0 time l) in
+          let q = rw p at o in
+          sym (rw (rw p at f, g) (ap (λ (x : User). Some x) (sym q)))
 
   pub is_loser : is_some (loser_of img time b) ≡ expired img time b
   unfolding loser_of

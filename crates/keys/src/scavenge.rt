@@ -29,7 +29,7 @@ fn loser(img: &[u8], time: Tick, b: usize) -> Option<User>
     ensures { result ≡ loser_of img.now time.0 b }
 {
     let h = header::of(img, b);
-    if !h.is_used() || time <= h.expires() {
+    if !h.is_used() || time.0 <= h.expires().0 {
         return None;
     }
     Some(h.owner())

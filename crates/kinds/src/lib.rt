@@ -9,7 +9,7 @@ pub mod limits;
 
 // A time, in ticks of 1 ms.
 #[repr(C)]
-#[derive(Clone, Copy, PartialEq, Eq, PartialOrd, Ord)]
+#[derive(Clone, Copy, PartialEq, Eq)]
 pub struct Tick(pub u64);
 
 // An amount, negative where it is given back.

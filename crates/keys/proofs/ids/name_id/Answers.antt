@@ -23,6 +23,6 @@ put-requires c =
 
 pub returns : goal.returns
 returns c =
-    let e = named _ _ _ _ _ _ (sym c.is_owned.ensures
-    ∙ c.if-not-is_owned.false) (ap (λ (x : Id). x.0) c.id-id.ensures) in
+    let e = named _ _ _ _ _ _ c.of.ensures _ (sym c.is_owned.ensures ∙ c.if-not-is_owned.false)
+    (ap (λ (x : Id). x.0) c.id.ensures) in
     record { entries = e.0; bytes = c.put.ensures ∙ e.1 }

@@ -9,8 +9,8 @@ returns c =
       c.put-3.ensures,
       c.put-2.ensures,
       c.put.ensures,
-      c.expires-expires.ensures,
-      c.created-created.ensures,
-      c.owner-owner.ensures,
+      c.expires.ensures,
+      c.created.ensures,
+      c.owner.ensures,
     )
-    (entry-written _ _ _ _ _ (omega (arith, c.requires.0)))
+    (entry-written _ _ _ _ _ (omega (arith, c.requires)))

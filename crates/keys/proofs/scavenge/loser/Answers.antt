@@ -1,18 +1,21 @@
 -- `keys::scavenge::loser` meets its contract.
-use mathlib.Core.Path.{sym, ap, ◌∙◌}
-use Rattle.kinds.specs.declared.Tick.{Tick}
+use mathlib.Core.Path.{sym, ◌∙◌}
 use Rattle.keys.proofs.Marks.{loser-unused, loser_stays, loser_goes}
 use Rattle.keys.proofs.scavenge.loser.Goals as goal
+use Rattle.keys.proofs.scavenge.loser.Goals.{
+  then-not-is_used-via-then-not-is_used,
+  then-not-is_used-via-else-not-is_used+then-le,
+}
 
 pub returns-then-not-is_used : goal.returns-then-not-is_used
-returns-then-not-is_used c = loser-unused _ _ _ (sym c.is_used.ensures ∙ c.if-not-is_used.true)
-
-pub returns-then-time-expires : goal.returns-then-time-expires
-returns-then-time-expires c = loser_stays _ _ _ _ (ap (λ (x : Tick). x.0) c.expires-expires.ensures)
-    c.if-time-expires.true
+returns-then-not-is_used c = elim c.then-not-is_used.branch [
+  | then-not-is_used-via-then-not-is_used w ↦
+      loser-unused _ _ _ _ c.of-h.ensures (sym c.is_used.ensures ∙ w.if-not-is_used.true)
+  | then-not-is_used-via-else-not-is_used+then-le w ↦
+      loser_stays _ _ _ _ c.of-h.ensures _ w.expires.ensures w.if-time.true
+  ]
 
 pub returns : goal.returns
 returns c =
-    loser_goes _ _ _ (sym c.is_used.ensures
-    ∙ c.if-not-is_used.false) _ (ap (λ (c : Tick). c.0) c.expires-expires.ensures) c.if-time-expires.false _
-    c.owner.ensures
+    loser_goes _ _ _ _ c.of-h.ensures _ c.expires.ensures (sym c.is_used.ensures ∙ c.if-not-is_used.false)
+    c.if-time.false _ c.owner.ensures
