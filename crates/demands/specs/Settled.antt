@@ -1,6 +1,6 @@
 -- SETTLED. Two outcomes that one promise allows are equal, and so is all memory lent to the function. The statement;
 -- its proof is in proofs/Settled.antt.
-use Rattle.std.specs.Prelude.{ℕ, ◌≡◌, List}
+use Rattle.std.specs.Prelude.{ℕ, ◌≡◌, List, Option}
 use Rattle.kinds.specs.declared.GetIdsAnswer.{GetIdsAnswer}
 use Rattle.kinds.specs.declared.User.{User}
 use Rattle.kinds.specs.declared.Walk.{Walk}
@@ -19,8 +19,8 @@ use Rattle.promise.specs.Scavenge.{ScavengePromise}
 use Rattle.promise.specs.Profile.{ProfilePromise}
 use Rattle.promise.specs.Walk.{StepPromise}
 use Rattle.series.specs.Reader.{OpenPromise, NextPromise}
-use Rattle.series.specs.declared.Answer.{Answer as Reading}
 use Rattle.series.specs.declared.Place.{Place}
+use Rattle.series.specs.declared.Sample.{Sample}
 
 -- a promise of an answer, and one of an answer and of the memory lent, settle them
 abbrev pub Answer : {A : Type 0} → (A → Type 0) → Type 0
@@ -53,5 +53,5 @@ pub record Settled : Type 0 where
       → StepPromise t img w ids a w' ids' → StepPromise t img w ids b w'' ids'' → (a ≡ b) × (w' ≡ w'') × (ids' ≡ ids'')
   -- a reader's opening, and a step of it
   pub open_series : (img : List ℕ) (client : User) (series : ℕ) → Answer (OpenPromise img client series)
-  pub next_sample : (img : List ℕ) (p : Place) (a b : Reading) (p' p'' : Place)
+  pub next_sample : (img : List ℕ) (p : Place) (a b : Option Sample) (p' p'' : Place)
       → NextPromise img p a p' → NextPromise img p b p'' → (a ≡ b) × (p' ≡ p'')

@@ -39,7 +39,7 @@ module _ (img : List ℕ) (time b : ℕ) where
 
     module _ (expires : Tick) (e : expires ≡ tick (expires_of h)) where
       its_expires : expires_of (header_of img b) ≡ expires.0
-      its_expires = rw ← p (sym (ap (λ (x : Tick). x.0) e))
+      its_expires = rw (← p) (sym (ap (λ (x : Tick). x.0) e))
 
       pub loser_stays : time ≤ expires.0 → None ≡ loser_of img time b
       unfolding loser_of expired

@@ -1,3 +1,4 @@
 pub mod Blocks
 pub mod Seeks
+pub mod Searches
 pub mod Openings

@@ -1,14 +1,13 @@
 -- What C and Rust are given of a reader: its place as nine words, and an answer as its number and its phase.
-use Rattle.std.specs.Prelude.{ℕ, List, eqb, Float, length, get_or, set}
+use Rattle.std.specs.Prelude.{ℕ, List, eqb, Float, length, get_or, set, Option, Some, None}
 use Rattle.std.specs.Float.{nan}
 use Rattle.plain.specs.Tests.{when}
 use Rattle.kinds.specs.Kinds.{user}
 use Rattle.kinds.specs.Report.{number_of}
 use Rattle.kinds.specs.declared.Report.TheVariants.{Success}
 use Rattle.series.specs.Reader.{stepped}
+use Rattle.series.specs.declared.Sample.{Sample}
 use Rattle.series.specs.declared.Sample.TheVariants.{Phase, Gap}
-use Rattle.series.specs.declared.Answer.{Answer}
-use Rattle.series.specs.declared.Answer.TheVariants.{At, Ended}
 use Rattle.series.specs.declared.Place as P
 use Rattle.zolvortug.specs.declared.places.Place.{Place}
 use Rattle.zolvortug.specs.declared.places.Sampled.{Sampled}
@@ -45,23 +44,23 @@ unfoldable pub words_after : List ℕ → P.Place → List ℕ
 words_after w p = set (set (set (set w 3 p.block) 4 p.sequence) 5 p.slot) 6 p.at
 
 -- a step on words that are not nine answers that the series has ended, and leaves them
-unfoldable pub step_answer : (img w : List ℕ) → Answer
-step_answer img w = when (eqb (length w) 9) (stepped img (place_in w)).answer Ended
+unfoldable pub step_answer : (img w : List ℕ) → Option Sample
+step_answer img w = when (eqb (length w) 9) (stepped img (place_in w)).answer None
 
 unfoldable pub step_words : (img w : List ℕ) → List ℕ
 step_words img w = when (eqb (length w) 9) (words_after w (stepped img (place_in w)).place) w
 
 -- the number of each answer
-abbrev pub answer_number : Answer → ℕ
-answer_number Ended = 0
-answer_number (At (Phase x)) = 1
-answer_number (At Gap) = 2
+abbrev pub answer_number : Option Sample → ℕ
+answer_number None = 0
+answer_number (Some (Phase x)) = 1
+answer_number (Some Gap) = 2
 
 -- the phase; a NaN where there is none, so that a gap cannot be taken for a phase
-abbrev pub phase_of : Answer → Float
-phase_of Ended = nan
-phase_of (At (Phase x)) = x
-phase_of (At Gap) = nan
+abbrev pub phase_of : Option Sample → Float
+phase_of None = nan
+phase_of (Some (Phase x)) = x
+phase_of (Some Gap) = nan
 
-abbrev pub sampled : Answer → Sampled
+abbrev pub sampled : Option Sample → Sampled
 sampled a = record { phase = phase_of a; answer = answer_number a }

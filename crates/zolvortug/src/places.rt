@@ -6,7 +6,7 @@ ghost use Rattle.zolvortug.specs.Places.{flat, place_in, words_after, phase_of, 
 ghost use Rattle.zolvortug.specs.Places.{step_words};
 
 use kinds::{Report, User};
-use series::{Answer, Sample};
+use series::Sample;
 
 // Where a reader stands, in nine words that its caller keeps: `series::Place`, with the report's number last.
 #[repr(C)]
@@ -70,27 +70,23 @@ fn write_place(w: &mut [u32], p: series::Place)
 }
 
 // The phase of an answer, a NaN where there is none.
-fn phase_of(a: Answer) -> f64
+#[tactic(auto, using(crate::proofs::Phases::no_number))]
+fn phase_of(a: Option<Sample>) -> f64
     ensures { result ≡ phase_of a }
 {
     match a {
-        Answer::Ended => 0.0 / 0.0,
-        Answer::At(s) => match s {
-            Sample::Gap => 0.0 / 0.0,
-            Sample::Phase(x) => x,
-        },
+        None | Some(Sample::Gap) => f64::NAN,
+        Some(Sample::Phase(x)) => x,
     }
 }
 
-fn answer_number(a: Answer) -> u8
+fn answer_number(a: Option<Sample>) -> u8
     ensures { result ≡ answer_number a }
 {
     match a {
-        Answer::Ended => ENDED,
-        Answer::At(s) => match s {
-            Sample::Gap => GAP,
-            Sample::Phase(_) => PHASE,
-        },
+        None => ENDED,
+        Some(Sample::Gap) => GAP,
+        Some(Sample::Phase(_)) => PHASE,
     }
 }
 
@@ -110,7 +106,7 @@ pub extern "C" fn zolvortug_series_open(client: u32, series: u32, img: &[u8]) ->
         slot: p.slot,
         at: p.at,
         end: p.end,
-        report: kinds::number(report) as u32,
+        report: u8::from(report) as u32,
     }
 }
 
@@ -122,7 +118,7 @@ pub extern "C" fn zolvortug_series_step(p: &mut [u32], img: &[u8]) -> Sampled
 {
     if p.len() != WORDS {
         return Sampled {
-            phase: phase_of(Answer::Ended),
+            phase: phase_of(None),
             answer: ENDED,
         };
     }

@@ -6,4 +6,4 @@ use Rattle.zolvortug.proofs.keyed.zolvortug_get_ids.Goals as goal
 pub returns : goal.returns
 returns c =
     let promise = c.get_ids-a.ensures in
-    record { answer = rw c.number.ensures (ap listed promise.answer); given = promise.given }
+    record { answer = rw c.from.ensures (ap listed promise.answer); given = promise.given }

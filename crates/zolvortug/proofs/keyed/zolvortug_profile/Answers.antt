@@ -6,4 +6,4 @@ use Rattle.zolvortug.proofs.keyed.zolvortug_profile.Goals as goal
 pub returns : goal.returns
 returns c =
     let promise = c.profile-a.ensures in
-    record { answer = rw c.number.ensures (ap profiled promise.answer); given = promise.given }
+    record { answer = rw c.from.ensures (ap profiled promise.answer); given = promise.given }

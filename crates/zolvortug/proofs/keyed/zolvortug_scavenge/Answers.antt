@@ -6,4 +6,4 @@ use Rattle.zolvortug.proofs.keyed.zolvortug_scavenge.Goals as goal
 pub returns : goal.returns
 returns c =
     let promise = c.scavenge-a.ensures in
-    record { answer = rw c.number.ensures (ap scavenged promise.answer); image = promise.image }
+    record { answer = rw c.from.ensures (ap scavenged promise.answer); image = promise.image }

@@ -6,4 +6,4 @@ use Rattle.zolvortug.proofs.keyed.zolvortug_step.Goals as goal
 pub returns : goal.returns
 returns c =
     let promise = c.next-s.ensures in
-    record { answer = rw c.number.ensures (ap₂ stepped promise.answer promise.walk); given = promise.given }
+    record { answer = rw c.from.ensures (ap₂ stepped promise.answer promise.walk); given = promise.given }

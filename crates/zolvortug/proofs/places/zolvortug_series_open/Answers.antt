@@ -2,4 +2,4 @@
 use Rattle.zolvortug.proofs.places.zolvortug_series_open.Goals as goal
 
 pub returns : goal.returns
-returns c = rw (c.number.ensures, c.start-p.ensures)
+returns c = rw (c.from.ensures, c.start-p.ensures)

@@ -6,4 +6,4 @@ use Rattle.zolvortug.proofs.single.zolvortug_create.Goals as goal
 pub returns : goal.returns
 returns c =
     let promise = c.create-a.ensures in
-    record { answer = rw c.number.ensures (ap created promise.answer); image = promise.image }
+    record { answer = rw c.from.ensures (ap created promise.answer); image = promise.image }

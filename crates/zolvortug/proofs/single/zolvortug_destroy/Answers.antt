@@ -6,4 +6,4 @@ use Rattle.zolvortug.proofs.single.zolvortug_destroy.Goals as goal
 pub returns : goal.returns
 returns c =
     let promise = c.destroy-a.ensures in
-    record { answer = rw c.number.ensures (ap destroyed promise.answer); image = promise.image }
+    record { answer = rw c.from.ensures (ap destroyed promise.answer); image = promise.image }

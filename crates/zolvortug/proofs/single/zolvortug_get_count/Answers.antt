@@ -6,4 +6,4 @@ use Rattle.zolvortug.proofs.single.zolvortug_get_count.Goals as goal
 pub returns : goal.returns
 returns c =
     let promise = c.get_count-a.ensures in
-    rw c.number.ensures (ap counted promise.answer)
+    rw c.from.ensures (ap counted promise.answer)

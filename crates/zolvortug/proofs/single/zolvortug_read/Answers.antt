@@ -6,4 +6,4 @@ use Rattle.zolvortug.proofs.single.zolvortug_read.Goals as goal
 pub returns : goal.returns
 returns c =
     let promise = c.read-a.ensures in
-    record { answer = rw c.number.ensures (ap read promise.answer); given = promise.given }
+    record { answer = rw c.from.ensures (ap read promise.answer); given = promise.given }

@@ -6,4 +6,4 @@ use Rattle.zolvortug.proofs.single.zolvortug_replace.Goals as goal
 pub returns : goal.returns
 returns c =
     let promise = c.replace-a.ensures in
-    record { answer = rw c.number.ensures (ap replaced promise.answer); image = promise.image }
+    record { answer = rw c.from.ensures (ap replaced promise.answer); image = promise.image }

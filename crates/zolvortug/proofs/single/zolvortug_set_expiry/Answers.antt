@@ -6,4 +6,4 @@ use Rattle.zolvortug.proofs.single.zolvortug_set_expiry.Goals as goal
 pub returns : goal.returns
 returns c =
     let promise = c.set_expiry-a.ensures in
-    record { answer = rw c.number.ensures (ap expiry_set promise.answer); image = promise.image }
+    record { answer = rw c.from.ensures (ap expiry_set promise.answer); image = promise.image }

@@ -6,4 +6,4 @@ use Rattle.zolvortug.proofs.single.zolvortug_status.Goals as goal
 pub returns : goal.returns
 returns c =
     let promise = c.status-a.ensures in
-    rw c.number.ensures (ap status promise.answer)
+    rw c.from.ensures (ap status promise.answer)
