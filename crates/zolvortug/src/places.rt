@@ -40,6 +40,35 @@ const PHASE: u8 = 1;
 
 const GAP: u8 = 2;
 
+impl From<series::Place> for Place {
+    ghost from_gives = { λ p words. words ≡ flat p };
+
+    fn from(p: series::Place) -> Place {
+        Place {
+            n: p.n,
+            client: p.client.0,
+            series: p.series,
+            block: p.block,
+            sequence: p.sequence,
+            slot: p.slot,
+            at: p.at,
+            end: p.end,
+            report: u8::from(p.report) as u32,
+        }
+    }
+}
+
+impl From<Option<Sample>> for Sampled {
+    ghost from_gives = { λ a flat. flat ≡ sampled a };
+
+    fn from(a: Option<Sample>) -> Sampled {
+        Sampled {
+            phase: phase_of(a),
+            answer: answer_number(a),
+        }
+    }
+}
+
 // The place that nine words stand for. No step looks at its report.
 fn read_place(w: &[u32]) -> series::Place
     requires { length w.now ≡ 9 }
@@ -95,19 +124,7 @@ fn answer_number(a: Option<Sample>) -> u8
 pub extern "C" fn zolvortug_series_open(client: u32, series: u32, img: &[u8]) -> Place
     ensures { result ≡ flat (started img.now (user client) series) }
 {
-    let p = reader::opening::start(img, User(client), series);
-    let report = p.report;
-    Place {
-        n: p.n,
-        client: p.client.0,
-        series: p.series,
-        block: p.block,
-        sequence: p.sequence,
-        slot: p.slot,
-        at: p.at,
-        end: p.end,
-        report: u8::from(report) as u32,
-    }
+    reader::opening::start(img, User(client), series).into()
 }
 
 // A step, which updates the nine words of a place where they stand.
@@ -117,16 +134,9 @@ pub extern "C" fn zolvortug_series_step(p: &mut [u32], img: &[u8]) -> Sampled
     ensures place { p.new ≡ step_words img.now p.old }
 {
     if p.len() != WORDS {
-        return Sampled {
-            phase: phase_of(None),
-            answer: ENDED,
-        };
+        return Sampled::from(None);
     }
     let s = reader::stepping::next(img, read_place(p));
-    let a = s.answer;
     write_place(p, s.place);
-    Sampled {
-        phase: phase_of(a),
-        answer: answer_number(a),
-    }
+    s.answer.into()
 }

@@ -9,7 +9,9 @@ ghost use Rattle.promise.specs.SetExpiry.{set_expiry_answer, set_expiry_image};
 ghost use Rattle.promise.specs.GetCount.{get_count_answer};
 ghost use Rattle.zolvortug.specs.Flat.{created, read, status, destroyed, replaced, expiry_set, counted, done};
 
-use kinds::{CreateAnswer, GetCountAnswer, Id, Money, Receipt, ReplaceAnswer, StatusAnswer, Tick, User};
+use kinds::{
+    CreateAnswer, GetCountAnswer, Id, Money, Receipt, ReplaceAnswer, StatusAnswer, Tick, User,
+};
 use tariff::Tariff;
 
 // What Create and Replace give.
@@ -136,7 +138,9 @@ pub extern "C" fn zolvortug_read(
     ensures answer { result ≡ read (read_answer t img.now client id buffer.old) }
     ensures given { buffer.new ≡ read_buffer img.now client id buffer.old }
 {
-    store::read::read(t, User(client), Id(id), buffer, img).receipt.into()
+    store::read::read(t, User(client), Id(id), buffer, img)
+        .receipt
+        .into()
 }
 
 #[unsafe(no_mangle)]
@@ -157,7 +161,9 @@ pub extern "C" fn zolvortug_destroy(
     ensures answer { result ≡ destroyed (destroy_answer t img.old client id time) }
     ensures image { img.new ≡ destroy_image img.old client id time }
 {
-    store::destroy::destroy(t, User(client), Id(id), Tick(time), img).receipt.into()
+    store::destroy::destroy(t, User(client), Id(id), Tick(time), img)
+        .receipt
+        .into()
 }
 
 #[unsafe(no_mangle)]
@@ -187,7 +193,9 @@ pub extern "C" fn zolvortug_set_expiry(
     ensures answer { result ≡ expiry_set (set_expiry_answer t img.old client id expiry time) }
     ensures image { img.new ≡ set_expiry_image img.old client id expiry time }
 {
-    store::set_expiry::set_expiry(t, User(client), Id(id), Tick(expiry), Tick(time), img).receipt.into()
+    store::set_expiry::set_expiry(t, User(client), Id(id), Tick(expiry), Tick(time), img)
+        .receipt
+        .into()
 }
 
 #[unsafe(no_mangle)]

@@ -1,9 +1,9 @@
 -- `zolvortug::keyed::zolvortug_scavenge` meets its contract: the operation's promise, laid flat.
-use mathlib.Core.Path.{ap}
+use Rattle.std.proofs.Common.{ap, ◌∙◌}
 use Rattle.zolvortug.specs.Flat.{scavenged}
 use Rattle.zolvortug.proofs.keyed.zolvortug_scavenge.Goals as goal
 
 pub returns : goal.returns
 returns c =
-    let promise = c.scavenge-a.ensures in
-    record { answer = rw c.from.ensures (ap scavenged promise.answer); image = promise.image }
+    let promise = c.scavenge.ensures in
+    record { answer = c.into.ensures ∙ ap scavenged promise.answer; image = promise.image }
