@@ -1,37 +1,40 @@
 // Clients on both sides of the limit, 63 and 64, and the sizes of data buffers: 527, 528 and 529.
-use crate::call::{Room, fresh};
-use crate::groups::{buffers, seven};
+use crate::call::Call::{Create, Destroy, GetCount, Read, Replace, SetExpiry, Status};
+use crate::groups::{lending, seven};
 use crate::named::{P409600, P413696, P417792};
-use crate::ops::{create, destroy, get_count, read, replace, set_expiry, status};
-use crate::rows::{Tally, say_heading};
+use crate::seen::Results::{self, BytesOf, Count, Id, Nothing};
+use crate::trial::Want::Done;
+use crate::trial::{Trial, rows};
 use std::io;
 
-fn client_63(rt: &impl Print, start: Tally, img: &mut Room) -> io::Result<Tally> {
-    fresh(img);
-    say_heading(rt, "Client 63")?;
-    let mut t = start;
-    t = create(rt, t, img, 63, 100, 500, 528, 0, 810, P409600)?;
-    t = read(rt, t, img, 63, P409600, 528, 0, 10, 100)?;
-    t = status(rt, t, img, 63, P409600, 0, 10, 63, 100, 500)?;
-    t = get_count(rt, t, img, 63, 0, 10, 1)?;
-    t = set_expiry(rt, t, img, 63, P409600, 101, 500, 0, 10)?;
-    t = replace(rt, t, img, 63, P409600, 102, 528, 0, 10, P417792)?;
-    destroy(rt, t, img, 63, P417792, 103, 0, -784)
+fn client_63(t: &mut Trial<impl Print>) -> io::Result<()> {
+    t.fresh();
+    t.heading("Client 63")?;
+    t.rows(&rows![
+        Create { client: 63, now: 100, expiry: 500, buffer: 528 } => Done(810, Id(P409600)),
+        Read { client: 63, id: P409600, buffer: 528 } => Done(10, BytesOf(100)),
+        Status { client: 63, id: P409600 } => Done(10, Results::Status { owner: 63, created: 100, expires: 500 }),
+        GetCount { client: 63 } => Done(10, Count(1)),
+        SetExpiry { client: 63, id: P409600, now: 101, expiry: 500 } => Done(10, Nothing),
+        Replace { client: 63, id: P409600, now: 102, buffer: 528 } => Done(10, Id(P417792)),
+        Destroy { client: 63, id: P417792, now: 103 } => Done(-784, Nothing),
+    ])
 }
 
-fn buffer_528(rt: &impl Print, start: Tally, img: &mut Room) -> io::Result<Tally> {
-    fresh(img);
-    say_heading(rt, "A buffer of 528 bytes")?;
-    let mut t = start;
-    t = create(rt, t, img, 3, 100, 500, 528, 0, 810, P409600)?;
-    t = read(rt, t, img, 3, P409600, 528, 0, 10, 100)?;
-    replace(rt, t, img, 3, P409600, 101, 528, 0, 10, P413696)
+fn buffer_528(t: &mut Trial<impl Print>) -> io::Result<()> {
+    t.fresh();
+    t.heading("A buffer of 528 bytes")?;
+    t.rows(&rows![
+        Create { client: 3, now: 100, expiry: 500, buffer: 528 } => Done(810, Id(P409600)),
+        Read { client: 3, id: P409600, buffer: 528 } => Done(10, BytesOf(100)),
+        Replace { client: 3, id: P409600, now: 101, buffer: 528 } => Done(10, Id(P413696)),
+    ])
 }
 
-pub(crate) fn all(rt: &impl Print, start: Tally, img: &mut Room) -> io::Result<Tally> {
-    let mut t = client_63(rt, start, img)?;
-    t = seven(rt, t, img, 2, "Client 64")?;
-    t = buffer_528(rt, t, img)?;
-    t = buffers(rt, t, img, P413696, 527, "A buffer of 527 bytes")?;
-    buffers(rt, t, img, P413696, 529, "A buffer of 529 bytes")
+pub(crate) fn all(t: &mut Trial<impl Print>) -> io::Result<()> {
+    client_63(t)?;
+    t.refused("Client 64", &seven(), 2)?;
+    buffer_528(t)?;
+    t.refused("A buffer of 527 bytes", &lending(3, P413696, 102, 527), 8)?;
+    t.refused("A buffer of 529 bytes", &lending(3, P413696, 102, 529), 8)
 }

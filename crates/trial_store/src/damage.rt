@@ -1,91 +1,95 @@
 // Images that are not sound: a wrong length or trailer, a damaged count, a damaged header.
-use crate::call::{Room, fresh, poke};
-use crate::groups::{five, seven};
+use crate::call::Call::{Create, Destroy, GetCount, Status};
+use crate::groups::{naming, seven};
 use crate::named::{P405504, P409600, P413697, P417794};
-use crate::ops::{create, destroy, get_count, status};
-use crate::rows::{Tally, say_heading};
+use crate::seen::Results::{Count, Id, Nothing};
+use crate::trial::Want::{Done, Refused};
+use crate::trial::{Trial, rows};
 use std::io;
 
-// So many bytes of the image are lent from here on.
-fn lend(t: Tally, size: usize) -> Tally {
-    Tally {
-        rows: t.rows,
-        differ: t.differ,
-        lent: size,
-    }
-}
-
 // Each call also has a client above 63: BadImage comes first.
-fn bad_images(rt: &impl Print, start: Tally, img: &mut Room) -> io::Result<Tally> {
-    fresh(img);
-    let mut t = lend(start, 6143);
-    t = seven(rt, t, img, 1, "An image one byte short, client 64")?;
-    t = lend(t, 6144);
-    poke(rt, img, 6143, 51)?;
-    t = seven(rt, t, img, 1, "The last byte of the trailer wrong")?;
-    poke(rt, img, 6143, 50)?;
-    poke(rt, img, 5652, 1)?;
-    seven(rt, t, img, 1, "A zero byte of the trailer not zero")
+fn bad_images(t: &mut Trial<impl Print>) -> io::Result<()> {
+    t.fresh();
+    t.cut = true;
+    t.refused("An image one byte short, client 64", &seven(), 1)?;
+    t.cut = false;
+    t.poke(6143, 51)?;
+    t.refused("The last byte of the trailer wrong", &seven(), 1)?;
+    t.poke(6143, 50)?;
+    t.poke(5652, 1)?;
+    t.refused("A zero byte of the trailer not zero", &seven(), 1)
 }
 
 // The count of client 3 is at 1048.
-fn counts_high(rt: &impl Print, start: Tally, img: &mut Room) -> io::Result<Tally> {
-    fresh(img);
-    let mut t = start;
-    t = create(rt, t, img, 3, 100, 500, 528, 0, 810, P409600)?;
-    poke(rt, img, 1048, 8)?;
-    t = get_count(rt, t, img, 3, 0, 10, 8)?;
-    t = create(rt, t, img, 3, 101, 50, 528, 9, 1, 0)?;
-    poke(rt, img, 1048, 9)?;
-    t = get_count(rt, t, img, 3, 9, 1, 0)?;
-    t = create(rt, t, img, 3, 101, 50, 528, 9, 1, 0)?;
-    poke(rt, img, 1048, 7)?;
-    t = create(rt, t, img, 3, 101, 50, 528, 0, 10, P413697)?;
-    get_count(rt, t, img, 3, 0, 10, 8)
+fn counts_high(t: &mut Trial<impl Print>) -> io::Result<()> {
+    t.fresh();
+    t.rows(&rows![
+        Create { client: 3, now: 100, expiry: 500, buffer: 528 } => Done(810, Id(P409600)),
+    ])?;
+    t.poke(1048, 8)?;
+    t.rows(&rows![
+        GetCount { client: 3 } => Done(10, Count(8)),
+        Create { client: 3, now: 101, expiry: 50, buffer: 528 } => Refused(9),
+    ])?;
+    t.poke(1048, 9)?;
+    t.rows(&rows![
+        GetCount { client: 3 } => Refused(9),
+        Create { client: 3, now: 101, expiry: 50, buffer: 528 } => Refused(9),
+    ])?;
+    t.poke(1048, 7)?;
+    t.rows(&rows![
+        Create { client: 3, now: 101, expiry: 50, buffer: 528 } => Done(10, Id(P413697)),
+        GetCount { client: 3 } => Done(10, Count(8)),
+    ])
 }
 
-fn counts_zero(rt: &impl Print, start: Tally, img: &mut Room) -> io::Result<Tally> {
-    poke(rt, img, 1048, 0)?;
-    let mut t = start;
-    t = destroy(rt, t, img, 3, P409600, 102, 9, 1)?;
-    t = destroy(rt, t, img, 3, P405504, 102, 10, 1)?;
-    t = destroy(rt, t, img, 5, P409600, 102, 11, 1)?;
-    t = create(rt, t, img, 3, 102, 102, 528, 0, 10, P417794)?;
-    t = destroy(rt, t, img, 3, P409600, 103, 0, -784)?;
-    get_count(rt, t, img, 3, 0, 10, 0)
+fn counts_zero(t: &mut Trial<impl Print>) -> io::Result<()> {
+    t.poke(1048, 0)?;
+    t.rows(&rows![
+        Destroy { client: 3, id: P409600, now: 102 } => Refused(9),
+        Destroy { client: 3, id: P405504, now: 102 } => Refused(10),
+        Destroy { client: 5, id: P409600, now: 102 } => Refused(11),
+        Create { client: 3, now: 102, expiry: 102, buffer: 528 } => Done(10, Id(P417794)),
+        Destroy { client: 3, id: P409600, now: 103 } => Done(-784, Nothing),
+        GetCount { client: 3 } => Done(10, Count(0)),
+    ])
 }
 
 // The owner in the header of block 0 is made 64.
-fn headers_used(rt: &impl Print, start: Tally, img: &mut Room) -> io::Result<Tally> {
-    fresh(img);
-    let mut t = create(rt, start, img, 3, 100, 500, 528, 0, 810, P409600)?;
-    poke(rt, img, 1, 64)?;
-    t = five(
-        rt,
-        t,
-        img,
-        P409600,
-        9,
+fn headers_used(t: &mut Trial<impl Print>) -> io::Result<()> {
+    t.fresh();
+    t.rows(&rows![
+        Create { client: 3, now: 100, expiry: 500, buffer: 528 } => Done(810, Id(P409600)),
+    ])?;
+    t.poke(1, 64)?;
+    t.refused(
         "The owner in block 0's header is 64",
+        &naming(3, P409600, 102),
+        9,
     )?;
-    five(rt, t, img, P405504, 9, "The same, the id of another time")
+    t.refused(
+        "The same, the id of another time",
+        &naming(3, P405504, 102),
+        9,
+    )
 }
 
 // A byte of the header of block 1, which is free, is made 1.
-fn headers_free(rt: &impl Print, start: Tally, img: &mut Room) -> io::Result<Tally> {
-    poke(rt, img, 104, 1)?;
-    say_heading(rt, "A byte in the free block 1's header is 1")?;
-    let mut t = start;
-    t = create(rt, t, img, 3, 101, 50, 528, 9, 1, 0)?;
-    status(rt, t, img, 3, P413697, 9, 1, 0, 0, 0)
+fn headers_free(t: &mut Trial<impl Print>) -> io::Result<()> {
+    t.poke(104, 1)?;
+    t.heading("A byte in the free block 1's header is 1")?;
+    t.rows(&rows![
+        Create { client: 3, now: 101, expiry: 50, buffer: 528 } => Refused(9),
+        Status { client: 3, id: P413697 } => Refused(9),
+    ])
 }
 
-pub(crate) fn all(rt: &impl Print, start: Tally, img: &mut Room) -> io::Result<Tally> {
-    let mut t = bad_images(rt, start, img)?;
-    say_heading(rt, "Damaged counts")?;
-    t = counts_high(rt, t, img)?;
-    t = counts_zero(rt, t, img)?;
-    say_heading(rt, "Damaged headers")?;
-    t = headers_used(rt, t, img)?;
-    headers_free(rt, t, img)
+pub(crate) fn all(t: &mut Trial<impl Print>) -> io::Result<()> {
+    bad_images(t)?;
+    t.heading("Damaged counts")?;
+    counts_high(t)?;
+    counts_zero(t)?;
+    t.heading("Damaged headers")?;
+    headers_used(t)?;
+    headers_free(t)
 }

@@ -1,40 +1,34 @@
-// Document 01's fourteen calls, in sequence.
-use crate::call::{Room, fresh};
-use crate::named::{P409600, P413697, P450561};
-use crate::ops::{
-    create, destroy, get_count, get_ids, read, replace, scavenge, set_expiry, status,
+// Document 01's fourteen calls, in sequence, with Status after the third, the sixth and the eleventh.
+use crate::call::Call::{
+    Create, Destroy, GetCount, GetIds, Read, Replace, Scavenge, SetExpiry, Status,
 };
-use crate::rows::Tally;
+use crate::named::{P409600, P413697, P450561};
+use crate::seen::Results::{self, Count, Id, Nothing};
+use crate::trial::Want::{Done, Refused};
+use crate::trial::{Trial, rows};
 use std::io;
 
-fn calls_1_to_6(rt: &impl Print, start: Tally, img: &mut Room) -> io::Result<Tally> {
-    fresh(img);
-    let mut t = start;
-    t = create(rt, t, img, 3, 100, 500, 528, 0, 810, P409600)?;
-    t = create(rt, t, img, 3, 100, 500, 528, 4, 1, 0)?;
-    t = create(rt, t, img, 5, 101, 50, 528, 0, 10, P413697)?;
-    t = status(rt, t, img, 5, P413697, 0, 10, 5, 101, 101)?;
-    t = set_expiry(rt, t, img, 5, P409600, 102, 300, 11, 1)?;
-    t = set_expiry(rt, t, img, 3, P409600, 103, 300, 0, -390)?;
-    t = replace(rt, t, img, 5, P413697, 110, 528, 0, 10, P450561)?;
-    status(rt, t, img, 5, P450561, 0, 10, 5, 110, 101)
-}
-
-fn calls_7_to_14(rt: &impl Print, start: Tally, img: &mut Room) -> io::Result<Tally> {
-    let mut t = start;
-    t = read(rt, t, img, 5, P413697, 528, 10, 1, 0)?;
-    t = get_ids(rt, t, img, 3, 0, 0, 10, 1, 1, P409600)?;
-    t = get_ids(rt, t, img, 3, 1, 0, 10, 65535, 0, 0)?;
-    t = scavenge(rt, t, img, 3, 200, 5, 1, 0, 0)?;
-    t = scavenge(rt, t, img, 0, 300, 0, 10, 65535, 1)?;
-    t = status(rt, t, img, 3, P409600, 0, 10, 3, 100, 300)?;
-    t = destroy(rt, t, img, 3, P409600, 350, 0, 110)?;
-    t = get_count(rt, t, img, 3, 0, 10, 0)?;
-    get_ids(rt, t, img, 3, 8, 6, 1, 8, 0, 0)
-}
-
-pub(crate) fn all(rt: &impl Print, start: Tally, img: &mut Room) -> io::Result<Tally> {
-    let mut t = start;
-    t = calls_1_to_6(rt, t, img)?;
-    calls_7_to_14(rt, t, img)
+pub(crate) fn all(t: &mut Trial<impl Print>) -> io::Result<()> {
+    t.fresh();
+    t.rows(&rows![
+        Create { client: 3, now: 100, expiry: 500, buffer: 528 } => Done(810, Id(P409600)),
+        Create { client: 3, now: 100, expiry: 500, buffer: 528 } => Refused(4),
+        Create { client: 5, now: 101, expiry: 50, buffer: 528 } => Done(10, Id(P413697)),
+        Status { client: 5, id: P413697 } => Done(10, Results::Status { owner: 5, created: 101, expires: 101 }),
+        SetExpiry { client: 5, id: P409600, now: 102, expiry: 300 } => Refused(11),
+        SetExpiry { client: 3, id: P409600, now: 103, expiry: 300 } => Done(-390, Nothing),
+        Replace { client: 5, id: P413697, now: 110, buffer: 528 } => Done(10, Id(P450561)),
+        Status { client: 5, id: P450561 } => Done(10, Results::Status { owner: 5, created: 110, expires: 101 }),
+    ])?;
+    t.rows(&rows![
+        Read { client: 5, id: P413697, buffer: 528 } => Refused(10),
+        GetIds { client: 3, count: 1, key: 0 } => Done(10, Results::Ids { key: 1, entries: 1, id: P409600 }),
+        GetIds { client: 3, count: 1, key: 1 } => Done(10, Results::Ids { key: 65535, entries: 0, id: 0 }),
+        Scavenge { client: 3, key: 0, now: 200 } => Refused(5),
+        Scavenge { client: 0, key: 0, now: 300 } => Done(10, Results::Scavenged { key: 65535, count: 1 }),
+        Status { client: 3, id: P409600 } => Done(10, Results::Status { owner: 3, created: 100, expires: 300 }),
+        Destroy { client: 3, id: P409600, now: 350 } => Done(110, Nothing),
+        GetCount { client: 3 } => Done(10, Count(0)),
+        GetIds { client: 3, count: 1, key: 8 } => Refused(6),
+    ])
 }

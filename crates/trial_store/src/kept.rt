@@ -1,60 +1,80 @@
 // What is stored stays: Read gives what Create and Replace stored, and no other byte of the image changes.
-use crate::call::{Room, fresh, row_bytes, row_sound};
+use crate::call::Call::{Create, Destroy, Read, Replace, SetExpiry, Status};
 use crate::named::{P409600, P413697, P417794, P425986};
-use crate::ops::{create, destroy, read, replace, set_expiry, status};
-use crate::rows::Tally;
+use crate::seen::Results::{self, BytesOf, Id, Nothing};
+use crate::trial::Want::{Done, Refused};
+use crate::trial::{Trial, rows};
 use std::io;
 
-fn stored(rt: &impl Print, start: Tally, img: &mut Room) -> io::Result<Tally> {
-    fresh(img);
-    let mut t = start;
-    t = create(rt, t, img, 3, 100, 500, 528, 0, 810, P409600)?;
-    t = create(rt, t, img, 5, 101, 50, 528, 0, 10, P413697)?;
-    t = create(rt, t, img, 3, 102, 500, 528, 0, 806, P417794)?;
-    t = read(rt, t, img, 3, P409600, 528, 0, 10, 100)?;
-    t = read(rt, t, img, 3, P413697, 528, 0, 10, 101)?;
-    read(rt, t, img, 3, P417794, 528, 0, 10, 102)
+fn stored(t: &mut Trial<impl Print>) -> io::Result<()> {
+    t.fresh();
+    t.rows(&rows![
+        Create { client: 3, now: 100, expiry: 500, buffer: 528 } => Done(810, Id(P409600)),
+        Create { client: 5, now: 101, expiry: 50, buffer: 528 } => Done(10, Id(P413697)),
+        Create { client: 3, now: 102, expiry: 500, buffer: 528 } => Done(806, Id(P417794)),
+        Read { client: 3, id: P409600, buffer: 528 } => Done(10, BytesOf(100)),
+        Read { client: 3, id: P413697, buffer: 528 } => Done(10, BytesOf(101)),
+        Read { client: 3, id: P417794, buffer: 528 } => Done(10, BytesOf(102)),
+    ])
 }
 
-fn destroyed(rt: &impl Print, start: Tally, img: &mut Room) -> io::Result<Tally> {
-    let old = *img;
-    let mut t = destroy(rt, start, img, 5, P413697, 103, 0, 14)?;
-    t = row_bytes(rt, t, &old, img, 0, 64, 0)?;
-    t = row_bytes(rt, t, &old, img, 128, 512, 0)?;
-    t = row_bytes(rt, t, &old, img, 512, 1024, 1)?;
-    t = row_bytes(rt, t, &old, img, 1024, 1536, 1)?;
-    t = row_bytes(rt, t, &old, img, 1536, 5632, 0)?;
-    t = row_bytes(rt, t, &old, img, 5632, 6144, 1)?;
-    row_sound(rt, t, img, "Check")
+fn destroyed(t: &mut Trial<impl Print>) -> io::Result<()> {
+    let old = t.img;
+    t.rows(&rows![
+        Destroy { client: 5, id: P413697, now: 103 } => Done(14, Nothing),
+    ])?;
+    t.changed(
+        &old,
+        &[
+            (0..64, 0),
+            (128..512, 0),
+            (512..1024, 1),
+            (1024..1536, 1),
+            (1536..5632, 0),
+            (5632..6144, 1),
+        ],
+    )?;
+    t.sound()
 }
 
-fn replaced(rt: &impl Print, start: Tally, img: &mut Room) -> io::Result<Tally> {
-    let mut t = start;
-    t = read(rt, t, img, 3, P409600, 528, 0, 10, 100)?;
-    t = read(rt, t, img, 3, P417794, 528, 0, 10, 102)?;
-    t = read(rt, t, img, 5, P413697, 528, 10, 1, 0)?;
-    t = replace(rt, t, img, 3, P417794, 104, 528, 0, 10, P425986)?;
-    t = read(rt, t, img, 3, P425986, 528, 0, 10, 104)?;
-    t = read(rt, t, img, 3, P417794, 528, 10, 1, 0)?;
-    read(rt, t, img, 3, P409600, 528, 0, 10, 100)
+fn replaced(t: &mut Trial<impl Print>) -> io::Result<()> {
+    t.rows(&rows![
+        Read { client: 3, id: P409600, buffer: 528 } => Done(10, BytesOf(100)),
+        Read { client: 3, id: P417794, buffer: 528 } => Done(10, BytesOf(102)),
+        Read { client: 5, id: P413697, buffer: 528 } => Refused(10),
+        Replace { client: 3, id: P417794, now: 104, buffer: 528 } => Done(10, Id(P425986)),
+        Read { client: 3, id: P425986, buffer: 528 } => Done(10, BytesOf(104)),
+        Read { client: 3, id: P417794, buffer: 528 } => Refused(10),
+        Read { client: 3, id: P409600, buffer: 528 } => Done(10, BytesOf(100)),
+    ])
 }
 
 // The header's expires is 8 bytes from 24, 500 and then 700; the clock is 8 bytes from 5656.
-fn expiry_set(rt: &impl Print, start: Tally, img: &mut Room) -> io::Result<Tally> {
-    let old = *img;
-    let mut t = set_expiry(rt, start, img, 3, P409600, 105, 700, 0, 410)?;
-    t = row_bytes(rt, t, &old, img, 0, 24, 0)?;
-    t = row_bytes(rt, t, &old, img, 24, 32, 2)?;
-    t = row_bytes(rt, t, &old, img, 32, 5656, 0)?;
-    t = row_bytes(rt, t, &old, img, 5656, 5664, 1)?;
-    t = row_bytes(rt, t, &old, img, 5664, 6144, 0)?;
-    t = status(rt, t, img, 3, P409600, 0, 10, 3, 100, 700)?;
-    row_sound(rt, t, img, "Check")
+fn expiry_set(t: &mut Trial<impl Print>) -> io::Result<()> {
+    let old = t.img;
+    t.rows(&rows![
+        SetExpiry { client: 3, id: P409600, now: 105, expiry: 700 } => Done(410, Nothing),
+    ])?;
+    t.changed(
+        &old,
+        &[
+            (0..24, 0),
+            (24..32, 2),
+            (32..5656, 0),
+            (5656..5664, 1),
+            (5664..6144, 0),
+        ],
+    )?;
+    t.rows(&rows![
+        Status { client: 3, id: P409600 } => Done(10, Results::Status { owner: 3, created: 100, expires: 700 }),
+    ])?;
+    t.sound()
 }
 
-pub(crate) fn all(rt: &impl Print, start: Tally, img: &mut Room) -> io::Result<Tally> {
-    let mut t = stored(rt, start, img)?;
-    t = destroyed(rt, t, img)?;
-    t = replaced(rt, t, img)?;
-    expiry_set(rt, t, img)
+pub(crate) fn all(t: &mut Trial<impl Print>) -> io::Result<()> {
+    t.heading("What is stored stays")?;
+    stored(t)?;
+    destroyed(t)?;
+    replaced(t)?;
+    expiry_set(t)
 }

@@ -3,8 +3,8 @@
 
 #![tactic(auto)]
 
-use crate::rows::{Tally, field, say_heading, write};
 use std::io;
+use trial::Trial;
 
 mod call;
 mod clients;
@@ -14,44 +14,21 @@ mod groups;
 mod ids;
 mod kept;
 mod named;
-mod ops;
-mod rows;
+mod seen;
 mod space;
+mod stored;
 mod times;
-
-// The last line.
-fn say_total(rt: &impl Print, t: Tally) -> io::Result<()> {
-    field(rt, "\n", t.rows as u64)?;
-    field(rt, " rows, ", t.differ as u64)?;
-    write(rt, " differ\n")
-}
-
-fn bounds(rt: &impl Print, start: Tally, img: &mut call::Room) -> io::Result<Tally> {
-    let mut t = clients::all(rt, start, img)?;
-    t = times::all(rt, t, img)?;
-    say_heading(rt, "A full store")?;
-    t = space::all(rt, t, img)?;
-    ids::all(rt, t, img)
-}
+mod trial;
 
 fn main(rt: HostRuntime) -> io::Result<()> {
-    let mut img = [0u8; 6144];
-    write(
-        &rt,
-        "Fourteen calls; Status after the third, the sixth and the eleventh\n",
-    )?;
-    let mut t = fourteen::all(
-        &rt,
-        Tally {
-            rows: 0,
-            differ: 0,
-            lent: 6144,
-        },
-        &mut img,
-    )?;
-    t = bounds(&rt, t, &mut img)?;
-    t = damage::all(&rt, t, &mut img)?;
-    say_heading(&rt, "What is stored stays")?;
-    t = kept::all(&rt, t, &mut img)?;
-    say_total(&rt, t)
+    let mut t = Trial::new(&rt);
+    println!(rt; "Fourteen calls; Status after the third, the sixth and the eleventh")?;
+    fourteen::all(&mut t)?;
+    clients::all(&mut t)?;
+    times::all(&mut t)?;
+    space::all(&mut t)?;
+    ids::all(&mut t)?;
+    damage::all(&mut t)?;
+    kept::all(&mut t)?;
+    t.total()
 }

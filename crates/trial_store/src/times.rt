@@ -1,65 +1,75 @@
 // Times on both sides of their limits: now and the asked expiry.
-use crate::call::{Room, fresh};
+use crate::call::Call::{Create, Destroy, Replace, SetExpiry, Status};
 use crate::groups::changing;
 use crate::named::{LAST, OVER, P20480, P24577, P409600, P4503599627366400};
-use crate::ops::{create, destroy, replace, set_expiry, status};
-use crate::rows::{Tally, say_heading};
+use crate::seen::Results::{self, Id, Nothing};
+use crate::trial::Want::{Done, Refused};
+use crate::trial::{Trial, rows};
 use std::io;
 
-fn expiries(rt: &impl Print, start: Tally, img: &mut Room) -> io::Result<Tally> {
-    fresh(img);
-    say_heading(rt, "The asked expiry")?;
-    let mut t = start;
-    t = create(rt, t, img, 3, 5, OVER, 528, 3, 1, 0)?;
-    t = create(rt, t, img, 3, 5, LAST, 528, 0, 2199023255550, P20480)?;
-    t = create(rt, t, img, 3, 6, 0, 528, 0, 10, P24577)?;
-    t = status(rt, t, img, 3, P24577, 0, 10, 3, 6, 6)?;
-    t = set_expiry(rt, t, img, 3, P24577, 7, OVER, 3, 1)?;
-    t = set_expiry(rt, t, img, 3, P24577, 7, LAST, 0, 2199023255548)?;
-    t = set_expiry(rt, t, img, 3, P24577, 8, 0, 0, -2199023255524)?;
-    status(rt, t, img, 3, P24577, 0, 10, 3, 6, 8)
+fn expiries(t: &mut Trial<impl Print>) -> io::Result<()> {
+    t.fresh();
+    t.heading("The asked expiry")?;
+    t.rows(&rows![
+        Create { client: 3, now: 5, expiry: OVER, buffer: 528 } => Refused(3),
+        Create { client: 3, now: 5, expiry: LAST, buffer: 528 } => Done(2199023255550, Id(P20480)),
+        Create { client: 3, now: 6, expiry: 0, buffer: 528 } => Done(10, Id(P24577)),
+        Status { client: 3, id: P24577 } => Done(10, Results::Status { owner: 3, created: 6, expires: 6 }),
+        SetExpiry { client: 3, id: P24577, now: 7, expiry: OVER } => Refused(3),
+        SetExpiry { client: 3, id: P24577, now: 7, expiry: LAST } => Done(2199023255548, Nothing),
+        SetExpiry { client: 3, id: P24577, now: 8, expiry: 0 } => Done(-2199023255524, Nothing),
+        Status { client: 3, id: P24577 } => Done(10, Results::Status { owner: 3, created: 6, expires: 8 }),
+    ])
 }
 
-fn nows(rt: &impl Print, start: Tally, img: &mut Room) -> io::Result<Tally> {
-    let mut t = start;
-    t = changing(rt, t, img, P24577, 0, 3, "Now 0")?;
-    t = changing(rt, t, img, P24577, OVER, 3, "Now 2^40")?;
-    t = changing(rt, t, img, P24577, 8, 4, "Now equal to the clock, 8")?;
-    changing(rt, t, img, P24577, 7, 4, "Now below the clock, 7")
+fn nows(t: &mut Trial<impl Print>) -> io::Result<()> {
+    for (what, now, report) in [
+        ("Now 0", 0, 3),
+        ("Now 2^40", OVER, 3),
+        ("Now equal to the clock, 8", 8, 4),
+        ("Now below the clock, 7", 7, 4),
+    ] {
+        t.refused(what, &changing(3, P24577, now), report)?;
+    }
+    Ok(())
 }
 
-fn last_set(rt: &impl Print, start: Tally, img: &mut Room) -> io::Result<Tally> {
-    say_heading(rt, "Now 2^40 - 1")?;
-    let mut t = start;
-    t = set_expiry(rt, t, img, 3, P24577, LAST, 0, 0, 2199023255544)?;
-    fresh(img);
-    t = create(rt, t, img, 3, LAST, 0, 528, 0, 10, P4503599627366400)?;
-    status(rt, t, img, 3, P4503599627366400, 0, 10, 3, LAST, LAST)
+fn last_set(t: &mut Trial<impl Print>) -> io::Result<()> {
+    t.heading("Now 2^40 - 1")?;
+    t.rows(&rows![
+        SetExpiry { client: 3, id: P24577, now: LAST, expiry: 0 } => Done(2199023255544, Nothing),
+    ])?;
+    t.fresh();
+    t.rows(&rows![
+        Create { client: 3, now: LAST, expiry: 0, buffer: 528 } => Done(10, Id(P4503599627366400)),
+        Status { client: 3, id: P4503599627366400 } =>
+            Done(10, Results::Status { owner: 3, created: LAST, expires: LAST }),
+    ])
 }
 
-fn last_times(rt: &impl Print, start: Tally, img: &mut Room) -> io::Result<Tally> {
-    fresh(img);
-    let mut t = start;
-    t = create(rt, t, img, 3, 100, 500, 528, 0, 810, P409600)?;
-    t = replace(rt, t, img, 3, P409600, LAST, 528, 0, 10, P4503599627366400)?;
-    t = status(rt, t, img, 3, P4503599627366400, 0, 10, 3, LAST, 500)?;
-    fresh(img);
-    t = create(rt, t, img, 3, 100, 500, 528, 0, 810, P409600)?;
-    destroy(rt, t, img, 3, P409600, LAST, 0, 2199023254560)
+fn last_times(t: &mut Trial<impl Print>) -> io::Result<()> {
+    t.fresh();
+    t.rows(&rows![
+        Create { client: 3, now: 100, expiry: 500, buffer: 528 } => Done(810, Id(P409600)),
+        Replace { client: 3, id: P409600, now: LAST, buffer: 528 } => Done(10, Id(P4503599627366400)),
+        Status { client: 3, id: P4503599627366400 } =>
+            Done(10, Results::Status { owner: 3, created: LAST, expires: 500 }),
+    ])?;
+    t.fresh();
+    t.rows(&rows![
+        Create { client: 3, now: 100, expiry: 500, buffer: 528 } => Done(810, Id(P409600)),
+        Destroy { client: 3, id: P409600, now: LAST } => Done(2199023254560, Nothing),
+    ])
 }
 
-pub(crate) fn all(rt: &impl Print, start: Tally, img: &mut Room) -> io::Result<Tally> {
-    let mut t = expiries(rt, start, img)?;
-    t = nows(rt, t, img)?;
-    t = last_set(rt, t, img)?;
-    t = changing(
-        rt,
-        t,
-        img,
-        P4503599627366400,
-        LAST,
-        4,
+pub(crate) fn all(t: &mut Trial<impl Print>) -> io::Result<()> {
+    expiries(t)?;
+    nows(t)?;
+    last_set(t)?;
+    t.refused(
         "The clock at 2^40 - 1",
+        &changing(3, P4503599627366400, LAST),
+        4,
     )?;
-    last_times(rt, t, img)
+    last_times(t)
 }
