@@ -49,9 +49,7 @@ pub fn get_block(img: &[u8], n: usize, b: BlockNum, buffer: &mut [u8])
 {
     let i = b.0 as usize;
     let tag = HEADER * i + TAG_AT;
-    let tag_end = tag + TAG;
     let data = HEADER * n + MAP_AND_COUNTS + DISK_BLOCK * i;
-    let data_end = data + DISK_BLOCK;
-    word::paste(buffer, 0, &img[tag..tag_end]);
-    word::paste(buffer, TAG, &img[data..data_end])
+    word::paste(buffer, 0, &img[tag..tag + TAG]);
+    word::paste(buffer, TAG, &img[data..data + DISK_BLOCK])
 }

@@ -6,9 +6,7 @@ ghost use Rattle.word.specs.Write.{over, puts};
 ghost use Rattle.kinds.specs.Kinds.{user, ident, tick};
 ghost use Rattle.promise.specs.Layout.{header_at};
 ghost use Rattle.promise.specs.Header.{header_of, owner_of, id_in, created_of, expires_of, is_used, used_right};
-ghost use Rattle.promise.specs.Header.{good_header};
-ghost use Rattle.promise.specs.Header.{header_bytes};
-ghost use Rattle.promise.specs.Header.{header_zeroed};
+ghost use Rattle.promise.specs.Header.{good_header, header_bytes, header_zeroed};
 ghost use Rattle.promise.specs.Map.{good};
 ghost use Rattle.promise.specs.Counts.{owned_by};
 ghost use Rattle.image.specs.Image.{Known, shape_tests, time_tests};
@@ -34,9 +32,8 @@ pub fn of(img: &[u8], b: usize) -> Header<'_>
     ensures { result.bytes.now ≡ header_of img.now b }
 {
     let at = HEADER * b;
-    let end = at + HEADER;
     Header {
-        bytes: &img[at..end],
+        bytes: &img[at..at + HEADER],
     }
 }
 
@@ -84,7 +81,7 @@ impl Header<'_> {
         ensures { result ≡ all (shape_tests self.entry.bytes.now) }
     {
         let x = u64::get(self.bytes, 0);
-        let y = std::num::wrapping_sub_u64(x, 1);
+        let y = x.wrapping_sub(1);
         y - 256 * (y / 256 % 64) == 0 && word::is_zero(self.bytes, 48, 16)
     }
 

@@ -26,8 +26,7 @@ fn tally_owner(h: Header, tally: &mut [u32])
 {
     let x = u64::get(h.bytes, 0);
     let u = (x / 256) as usize;
-    let t = tally[u];
-    tally[u] = t + 1;
+    tally[u] += 1;
 }
 
 // Whether the header of a block is good, by its map bit; if it is, it is tallied.
@@ -104,9 +103,7 @@ fn same_count(img: &[u8], n: usize, u: User, tally: &[u32]) -> bool
     requires { Laid img.now n × (u.0 < 64) × (length tally.now ≡ 64) }
     ensures { result ≡ same_count n img.now tally.now u.0 }
 {
-    let i = u.0 as usize;
-    let t = tally[i] as u64;
-    counts::count_of(img, n, u) == t
+    counts::count_of(img, n, u) == tally[u.0 as usize] as u64
 }
 
 // Whether each count is its tally.
