@@ -3,7 +3,6 @@ pub mod Trailers
 pub mod Headers
 pub mod Lowest
 pub mod Tallies
-pub mod Lent
 pub mod Eights
 pub mod Checks
 pub mod Fresh

@@ -14,7 +14,6 @@ use lib.Bits.{bit_or, or_add_and, and_le_r}
 use lib.Dec.{eqb}
 use lib.ListN.{length, take, drop, get_or, set, length-take, length-drop, take-append-drop}
 use lib.Seq.{drop-cons, drop-drop, sets-eq}
-use Rattle.std.specs.Array.{IsFirstChunk}
 use Rattle.std.specs.Int.{w32, w64, from_le_bytes, to_le_bytes}
 use Rattle.std.specs.List.{fold}
 use Rattle.std.specs.Simd.{first_chunks}
@@ -22,7 +21,6 @@ use Rattle.std.proofs.lemmas.Nat.{le_bytes_4, le_bytes_8}
 use Rattle.word.specs.Word.{part, le, word_at, bytes_of, all_zero, Spelled}
 use Rattle.word.specs.Write.{over}
 use Rattle.word.proofs.Laws.{length_part, length-bytes_of, bytes-bytes_of, le-bytes_of, part_split}
-use Rattle.word.proofs.Lent.{lent-rest}
 
 -- ---- a part, from its first byte on
 
@@ -33,6 +31,14 @@ part_turn l at k h = rw (drop-cons l at 0 h, add-one)
 pub word_one : (l : List ℕ) (at : ℕ) → at < length l → word_at 1 l at ≡ get_or l at 0
 unfolding le part
 word_one l at h = rw (drop-cons l at 0 h) (omega arith)
+
+-- a number, from its byte i on
+word_turn : (l : List ℕ) (at i k : ℕ) → at + i < length l
+    → word_at (suc k) l (at + i) ≡ get_or l (at + i) 0 + 256 * word_at k l (at + (i + 1))
+unfolding le
+word_turn l at i k h =
+    let e : at + (i + 1) ≡ at + i + 1 = omega arith in
+    rw (e, part_turn l (at + i) k h)
 
 pub word_first : (l : List ℕ) (at k : ℕ) → at < length l
     → word_at (suc k) l at ≡ get_or l at 0 + 256 * word_at k l (at + 1)
@@ -51,18 +57,36 @@ unfolding le
 le_eight (a ∷ b ∷ c ∷ d ∷ e ∷ f ∷ g ∷ i ∷ []) h = omega arith
 le_eight _ h = absurd (omega arith)
 
--- the first bytes of what is lent from a place on
-first_part : (l ys : List ℕ) (at k : ℕ) → IsFirstChunk (take (length l - at) (drop at l)) ys k → ys ≡ part l at k
-unfolding part
-first_part l ys at k h = h.same ∙ ap (take k) (lent-rest l at)
+-- the bytes at a place, in a row
+pub read_four : (l : List ℕ) (at : ℕ) → at + 4 ≤ length l
+    → from_le_bytes w32 (get_or l at 0 ∷ get_or l (at + 1) 0 ∷ get_or l (at + 2) 0 ∷ get_or l (at + 3) 0 ∷ [])
+    ≡ word_at 4 l at
+read_four l at h =
+    omega (
+      arith,
+      word_first l at 3 (omega arith),
+      word_turn l at 1 2 (omega arith),
+      word_turn l at 2 1 (omega arith),
+      word_one l (at + 3) (omega arith),
+    )
 
-pub read_four : (l ys : List ℕ) (at : ℕ) → at + 4 ≤ length l → IsFirstChunk (take (length l - at) (drop at l)) ys 4
-    → from_le_bytes w32 ys ≡ word_at 4 l at
-read_four l ys at h f = ap (from_le_bytes w32) (first_part l ys at 4 f) ∙ le_four (part l at 4) (length_part l at 4 h)
-
-pub read_eight : (l ys : List ℕ) (at : ℕ) → at + 8 ≤ length l → IsFirstChunk (take (length l - at) (drop at l)) ys 8
-    → from_le_bytes w64 ys ≡ word_at 8 l at
-read_eight l ys at h f = ap (from_le_bytes w64) (first_part l ys at 8 f) ∙ le_eight (part l at 8) (length_part l at 8 h)
+pub read_eight : (l : List ℕ) (at : ℕ) → at + 8 ≤ length l
+    → from_le_bytes w64
+    (get_or l at 0 ∷ get_or l (at + 1) 0 ∷ get_or l (at + 2) 0 ∷ get_or l (at + 3) 0
+    ∷ get_or l (at + 4) 0 ∷ get_or l (at + 5) 0 ∷ get_or l (at + 6) 0 ∷ get_or l (at + 7) 0 ∷ [])
+    ≡ word_at 8 l at
+read_eight l at h =
+    omega (
+      arith,
+      word_first l at 7 (omega arith),
+      word_turn l at 1 6 (omega arith),
+      word_turn l at 2 5 (omega arith),
+      word_turn l at 3 4 (omega arith),
+      word_turn l at 4 3 (omega arith),
+      word_turn l at 5 2 (omega arith),
+      word_turn l at 6 1 (omega arith),
+      word_one l (at + 7) (omega arith),
+    )
 
 pub bytes_four : (v : ℕ) → Spelled 4 v → to_le_bytes w32 v ≡ bytes_of 4 v
 bytes_four v h = le_bytes_4 (bytes_of 4 v) v (length-bytes_of 4 v) (bytes-bytes_of 4 v)

@@ -43,7 +43,7 @@ impl Number for u32 {
     ghost value = { λ v. v };
 
     fn get(s: &[u8], at: usize) -> u32 {
-        u32::from_le_bytes(*s[at..].first_chunk().unwrap())
+        u32::from_le_bytes([s[at], s[at + 1], s[at + 2], s[at + 3]])
     }
 
     fn put(s: &mut [u8], at: usize, v: u32) {
@@ -57,7 +57,16 @@ impl Number for u64 {
     ghost value = { λ v. v };
 
     fn get(s: &[u8], at: usize) -> u64 {
-        u64::from_le_bytes(*s[at..].first_chunk().unwrap())
+        u64::from_le_bytes([
+            s[at],
+            s[at + 1],
+            s[at + 2],
+            s[at + 3],
+            s[at + 4],
+            s[at + 5],
+            s[at + 6],
+            s[at + 7],
+        ])
     }
 
     fn put(s: &mut [u8], at: usize, v: u64) {

@@ -4,4 +4,4 @@ use Rattle.word.proofs.Bytes.{read_four}
 use Rattle.word.proofs.U32Number.get.Goals as goal
 
 pub returns : goal.returns
-returns c = c.from_le_bytes.ensures ∙ read_four _ _ _ c.requires (rw c.unwrap.ensures at c.first_chunk.ensures.cases)
+returns c = c.from_le_bytes.ensures ∙ read_four _ _ c.requires

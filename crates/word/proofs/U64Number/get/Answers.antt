@@ -4,4 +4,4 @@ use Rattle.word.proofs.Bytes.{read_eight}
 use Rattle.word.proofs.U64Number.get.Goals as goal
 
 pub returns : goal.returns
-returns c = c.from_le_bytes.ensures ∙ read_eight _ _ _ c.requires (rw c.unwrap.ensures at c.first_chunk.ensures.cases)
+returns c = c.from_le_bytes.ensures ∙ read_eight _ _ c.requires
