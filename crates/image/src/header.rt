@@ -7,12 +7,10 @@ ghost use Rattle.kinds.specs.Kinds.{user, ident, tick};
 ghost use Rattle.promise.specs.Layout.{header_at};
 ghost use Rattle.promise.specs.Header.{header_of, owner_of, id_in, created_of, expires_of, is_used, used_right};
 ghost use Rattle.promise.specs.Header.{good_header, header_bytes, header_zeroed};
-ghost use Rattle.promise.specs.Map.{good};
 ghost use Rattle.promise.specs.Counts.{owned_by};
-ghost use Rattle.image.specs.Image.{Known, shape_tests, time_tests};
+ghost use Rattle.image.specs.Image.{shape_tests, time_tests};
 
 use crate::layout::{CREATED_AT, EXPIRES_AT, HEADER, ID_AT, OWNER_AT, TAG_AT};
-use crate::map;
 use kinds::limits::END_OF_TIME;
 use kinds::{BlockNum, Id, Tick, User};
 use word::Number;
@@ -127,16 +125,6 @@ pub fn is_owned(img: &[u8], client: User, b: usize) -> bool
 {
     let h = of(img, b);
     h.is_used() && h.owner().0 == client.0
-}
-
-// Whether the header of a block is good, in the image as it stands.
-#[tactic(auto, unfolding(promise::specs::Map::good))]
-pub fn is_good(img: &[u8], n: usize, clock: Tick, b: BlockNum) -> bool
-    requires { Known img.now n clock.0 × (b.0 < n) }
-    ensures { result ≡ good img.now b.0 }
-{
-    let free = map::is_free(img, n, b);
-    of(img, b.0 as usize).is_good(clock, b, free)
 }
 
 // The header of a used block.

@@ -6,6 +6,7 @@
 pub mod counts;
 pub mod format;
 pub mod header;
+pub mod known;
 pub mod layout;
 pub mod map;
 pub mod sound;

@@ -3,5 +3,5 @@ use Rattle.std.proofs.Common.{sym, ◌∙◌}
 use Rattle.image.proofs.Checks.{told_known}
 use Rattle.image.proofs.sound.check.Goals as goal
 
-pub body_sound-requires : goal.body_sound-requires
-body_sound-requires c = told_known _ _ (sym c.read_trailer.ensures ∙ c.in-Some.is)
+pub invariant_of-body_sound : goal.invariant_of-body_sound
+invariant_of-body_sound c = record { known = told_known _ _ (sym c.read_trailer.ensures ∙ c.in-Some.is) }

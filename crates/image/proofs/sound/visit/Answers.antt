@@ -11,28 +11,28 @@ pub returns-then-bit : goal.returns-then-bit
 returns-then-bit c =
     let z = c.is_zero.ensures ∙ ap all_zero c.of-h.ensures in
     record {
-      answer = z ∙ good_is_zero c.args.img.now _ _ c.args.b.0 c.requires.0 (sym c.requires.2 ∙ c.if-bit.true);
+      answer = z ∙ good_is_zero c.args.image.bytes.now _ _ c.args.b.0 c.args.image.known (sym c.requires.1 ∙ c.if-bit.true);
       tally = free_tally _ _ _ z;
     }
 
 pub returns-then-not-used_right : goal.returns-then-not-used_right
 returns-then-not-used_right c =
-    let e = c.used_right.ensures ∙ ap (λ h. used_right c.args.clock.0 c.args.b.0 h) c.of-h.ensures in
+    let e = c.used_right.ensures ∙ ap (λ h. used_right c.args.image.clock.0 c.args.b.0 h) c.of-h.ensures in
     record {
       answer = sym c.if-not-used_right.true ∙ e
-          ∙ good_is_used c.args.img.now _ _ c.args.b.0 c.requires.0 (sym c.requires.2 ∙ c.if-bit.false);
+          ∙ good_is_used c.args.image.bytes.now _ _ c.args.b.0 c.args.image.known (sym c.requires.1 ∙ c.if-bit.false);
       tally = refl;
     }
 
 pub tally_owner-requires : goal.tally_owner-requires
 tally_owner-requires c =
-    (c.requires.3, right_shape _ c.args.b.0 _ (sym c.used_right.ensures ∙ c.if-not-used_right.false), c.requires.4)
+    (right_shape _ c.args.b.0 _ (sym c.used_right.ensures ∙ c.if-not-used_right.false), c.requires.2)
 
 pub returns : goal.returns
 returns c =
-    let e = c.used_right.ensures ∙ ap (λ h. used_right c.args.clock.0 c.args.b.0 h) c.of-h.ensures in
+    let e = c.used_right.ensures ∙ ap (λ h. used_right c.args.image.clock.0 c.args.b.0 h) c.of-h.ensures in
     record {
       answer = sym c.if-not-used_right.false ∙ e
-          ∙ good_is_used c.args.img.now _ _ c.args.b.0 c.requires.0 (sym c.requires.2 ∙ c.if-bit.false);
+          ∙ good_is_used c.args.image.bytes.now _ _ c.args.b.0 c.args.image.known (sym c.requires.1 ∙ c.if-bit.false);
       tally = c.tally_owner.ensures ∙ ap (λ h. tallied h c.args.tally.now) c.of-h.ensures;
     }

@@ -7,6 +7,5 @@ use Rattle.image.proofs.sound.visit_all.Given as goal
 
 abbrev pub invariant-loop-i : goal.invariant-loop-i
 invariant-loop-i l =
-    (length l.tally ≡ 64)
-    × (all_of (good l.img) 0 (8 * l.i) ≡ true)
-    × ((u : ℕ) → get_or l.tally u 0 ≡ times u (owners_from l.img 0 (8 * l.i)))
+    (all_of (good l.image.bytes.now) 0 (8 * l.i) ≡ true)
+    × ((u : ℕ) → get_or l.tally u 0 ≡ times u (owners_from l.image.bytes.now 0 (8 * l.i)))

@@ -7,15 +7,12 @@ use Rattle.image.proofs.sound.visit_eight.Goals as goal
 pub returns-then-m : goal.returns-then-m
 returns-then-m c =
     let a = c.args in
-    let img = a.img.now in record {
-      answer = c.is_zero.ensures ∙ eight_free img a.n a.clock.0 a.i c.get-m.result c.requires.0 c.requires.1
+    let img = a.image.bytes.now in record {
+      answer = c.is_zero.ensures ∙ eight_free img a.image.n a.image.clock.0 a.i c.get-m.result a.image.known c.requires.0
           c.get-m.ensures c.if-m.true;
-      tally = λ e. (
-        c.requires.2,
-        λ u. omega (
-          arith,
-          eight_none img a.n a.clock.0 a.i c.get-m.result c.requires.0 c.requires.1
-              c.get-m.ensures c.if-m.true (sym c.is_zero.ensures ∙ e) u,
-        ),
+      tally = λ e u. omega (
+        arith,
+        eight_none img a.image.n a.image.clock.0 a.i c.get-m.result a.image.known c.requires.0
+            c.get-m.ensures c.if-m.true (sym c.is_zero.ensures ∙ e) u,
       );
     }
