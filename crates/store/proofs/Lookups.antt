@@ -43,24 +43,24 @@ pub no_room : (img : List ℕ) (id : ℕ) (room : Bool) → room ≡ false → E
 unfolding answered lowest find_rows
 no_room img id room e = rw e
 
-module _ (img : List ℕ) (id : ℕ) (room : Bool) (r : room ≡ true) (t : Trailer) (k : Known img t.n t.clock.0) where
-  pub not_shaped : shape_of (undone id) t.n ≡ None → find_answer img id room ≡ Err NoSuchBlock
+module _ (img : List ℕ) (id : ℕ) (room : Bool) (r : room ≡ true) (n clock : ℕ) (k : Known img n clock) where
+  pub not_shaped : shape_of (undone id) n ≡ None → find_answer img id room ≡ Err NoSuchBlock
   unfolding answered lowest find_rows lookup_damaged no_such_block
-  not_shaped e = rw (r, k.its_n, told_unshaped t.n (undone id) e)
+  not_shaped e = rw (r, k.its_n, told_unshaped n (undone id) e)
 
-  module _ (b : BlockNum) (s : shape_of (undone id) t.n ≡ Some b) where
-    pub shaped_within : b.0 < t.n
-    shaped_within = (told_shaped t.n (undone id) b s).0
+  module _ (b : BlockNum) (s : shape_of (undone id) n ≡ Some b) where
+    pub shaped_within : b.0 < n
+    shaped_within = (told_shaped n (undone id) b s).0
 
     pub bad_header : good img b.0 ≡ false → Err Damaged ≡ find_answer img id room
     unfolding answered lowest find_rows lookup_damaged
-    bad_header g = let w = told_shaped t.n (undone id) b s in rw (r, k.its_n, w.2, w.1, g)
+    bad_header g = let w = told_shaped n (undone id) b s in rw (r, k.its_n, w.2, w.1, g)
 
     -- its header as it was lent, and the id that was read from it
     module _ (g : good img b.0 ≡ true) (h : List ℕ) (p : h ≡ header_of img b.0) where
       pub unused : is_used h ≡ false → Err NoSuchBlock ≡ find_answer img id room
       unfolding answered lowest find_rows lookup_damaged no_such_block
-      unused u = let w = told_shaped t.n (undone id) b s in rw (r, k.its_n, w.2, w.1, g, ← p, u)
+      unused u = let w = told_shaped n (undone id) b s in rw (r, k.its_n, w.2, w.1, g, ← p, u)
 
       module _ (u : is_used h ≡ true) (held : Id) (q : held ≡ ident (id_in h)) where
         its_id : id_in h ≡ held.0
@@ -69,14 +69,14 @@ module _ (img : List ℕ) (id : ℕ) (room : Bool) (r : room ≡ true) (t : Trai
         pub another : not (eqb held.0 id) ≡ true → Err NoSuchBlock ≡ find_answer img id room
         unfolding answered lowest find_rows lookup_damaged no_such_block
         another d =
-            let w = told_shaped t.n (undone id) b s in
+            let w = told_shaped n (undone id) b s in
             let e : eqb (id_in h) id ≡ false = rw its_id (not-true (eqb held.0 id) d) in
             rw (r, k.its_n, w.2, w.1, g, ← p, u, e)
 
         pub there : not (eqb held.0 id) ≡ false → Ok b ≡ find_answer img id room
         unfolding answered lowest find_rows lookup_damaged no_such_block
         there d =
-            let w = told_shaped t.n (undone id) b s in
+            let w = told_shaped n (undone id) b s in
             let e : eqb (id_in h) id ≡ true = rw its_id (not-false (eqb held.0 id) d) in
             rw (r, k.its_n, w.2, w.1, g, ← p, u, e, whole)
           where

@@ -10,8 +10,10 @@ ghost use Rattle.store.specs.Store.{fill_writes};
 ghost use Rattle.store.specs.Places.{place_for};
 
 use crate::{block, later_of};
+use image::known::Image;
 use image::layout::SERVICE_BLOCK;
-use image::{counts, header, map};
+use image::trailer::Trailer;
+use image::{counts, map};
 use kinds::{BlockNum, CreateAnswer, Id, Report, Tick, User};
 use tariff::Tariff;
 
@@ -34,22 +36,27 @@ fn seek_free(
     ensures { result ≡ answered (lowest (create_rows img.now client.0 expiry.0 bytes.now time.0))
         (place_for img.now client.0) }
 {
-    let t = front::changing(client, expiry, time, img)?;
+    let Trailer { n, clock } = front::changing(client, expiry, time, img)?;
     if bytes.len() != SERVICE_BLOCK {
         return Err(Report::BadRoom);
     }
-    let b = map::lowest_free(img, t.n);
-    if t.n <= (b.0 as usize) {
+    let b = map::lowest_free(img, n);
+    if n <= (b.0 as usize) {
         return Err(Report::NoSpace);
     }
-    if !header::is_good(img, t.n, t.clock, b) {
+    let image = Image {
+        bytes: img,
+        n,
+        clock,
+    };
+    if !image.is_good(b) {
         return Err(Report::Damaged);
     }
-    let count = counts::count_of(img, t.n, client);
-    if (t.n as u64) <= count {
+    let count = counts::count_of(img, n, client);
+    if (n as u64) <= count {
         return Err(Report::Damaged);
     }
-    Ok(Place { n: t.n, b, count })
+    Ok(Place { n, b, count })
 }
 
 // The stores.

@@ -3,11 +3,11 @@ ghost use Rattle.std.specs.Prelude.{◌≡◌, ◌++◌};
 ghost use Rattle.kinds.specs.Kinds.{block_num};
 ghost use Rattle.promise.specs.Lookup.{leads_to};
 ghost use Rattle.promise.specs.Refusals.{lowest};
-ghost use Rattle.image.specs.Image.{Known};
 ghost use Rattle.front.specs.Rows.{reading_rows, changing_rows, answered};
 ghost use Rattle.store.specs.Store.{find_rows, own_rows, found};
 
 use image::header;
+use image::known::Image;
 use image::trailer::Trailer;
 use kinds::{BlockNum, Id, Report, Tick, User};
 
@@ -20,18 +20,18 @@ pub(crate) struct Found {
 
 // The buffer's room, then the block that the id leads to.
 #[tactic(auto, using(crate::proofs::Lookups::find_cases))]
-fn find(id: Id, room: bool, t: Trailer, img: &[u8]) -> Result<BlockNum, Report>
-    requires { Known img.now t.n t.clock.0 }
-    ensures { result ≡ answered (lowest (find_rows img.now id.0 room)) (block_num (leads_to id.0)) }
+fn find(id: Id, room: bool, image: Image) -> Result<BlockNum, Report>
+    ensures { result ≡ answered (lowest (find_rows image.entry.bytes.now id.0 room))
+        (block_num (leads_to id.0)) }
 {
     if !room {
         return Err(Report::BadRoom);
     }
-    let b = ident::shaped(id, t.n as u32).ok_or(Report::NoSuchBlock)?;
-    if !header::is_good(img, t.n, t.clock, b) {
+    let b = ident::shaped(id, image.n as u32).ok_or(Report::NoSuchBlock)?;
+    if !image.is_good(b) {
         return Err(Report::Damaged);
     }
-    let h = header::of(img, b.0 as usize);
+    let h = header::of(image.bytes, b.0 as usize);
     if !h.is_used() || h.id() != id {
         return Err(Report::NoSuchBlock);
     }
@@ -43,9 +43,10 @@ pub(crate) fn seek(client: User, id: Id, room: bool, img: &[u8]) -> Result<Found
     ensures { result ≡ answered (lowest (reading_rows img.now client.0 ++ find_rows img.now id.0 room))
         (found img.now (leads_to id.0)) }
 {
-    let t = front::reading(client, img)?;
-    let b = find(id, room, t, img)?;
-    Ok(Found { n: t.n, b })
+    let Trailer { n, clock } = front::reading(client, img)?;
+    let bytes = img;
+    let b = find(id, room, Image { bytes, n, clock })?;
+    Ok(Found { n, b })
 }
 
 // All tests of Replace and SetExpiry, and those of Destroy but its count's.
@@ -61,10 +62,11 @@ pub(crate) fn seek_own(
         (lowest (changing_rows img.now client.0 expiry.0 time.0 ++ own_rows img.now client.0 id.0 room))
         (found img.now (leads_to id.0)) }
 {
-    let t = front::changing(client, expiry, time, img)?;
-    let b = find(id, room, t, img)?;
+    let Trailer { n, clock } = front::changing(client, expiry, time, img)?;
+    let bytes = img;
+    let b = find(id, room, Image { bytes, n, clock })?;
     if header::of(img, b.0 as usize).owner() != client {
         return Err(Report::NotOwner);
     }
-    Ok(Found { n: t.n, b })
+    Ok(Found { n, b })
 }
