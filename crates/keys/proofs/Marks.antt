@@ -8,9 +8,9 @@ use native.Mathlib.Decide.{ℕ_discrete}
 use native.Mathlib.Omega.{arith}
 use borrow.Author.Tests.{eq-eqb, ne_eqb, lt-ltb, le-ltb}
 use lib.Dec.{eqb, ltb}
-use lib.ListN.{length, get_or, set}
+use lib.ListN.{length, get_or, set, length-set}
 use lib.Seq.{get_or-set_same, get_or-set_other}
-use Rattle.std.specs.Prelude.{Some, None, is_some, IfSome}
+use Rattle.std.specs.Prelude.{Option, Some, None, is_some, IfSome}
 use Rattle.kinds.specs.Kinds.{user, tick}
 use Rattle.kinds.specs.declared.User.{User}
 use Rattle.plain.specs.Tests.{when, both}
@@ -109,6 +109,10 @@ raised t x u h = go (ℕ_discrete u x)
     go : Dec (u ≡ x) → get_or (set t x (get_or t x 0 + 1)) u 0 ≡ get_or t u 0 + cond (eqb x u) 1 0
     go (yes q) = rw (q, eq-eqb x x refl) (get_or-set_same t x (get_or t x 0 + 1) 0 h)
     go (no d) = rw (ne_eqb x u (λ r. d (sym r))) (get_or-set_other t x u (get_or t x 0 + 1) 0 d ∙ omega arith)
+
+pub length-raised : (who : Option User) (tally : List ℕ) → length (raised_by who tally) ≡ length tally
+length-raised None tally = refl
+length-raised (Some u) tally = length-set tally u.0 _
 
 -- what one block adds
 added : (img : List ℕ) (time b : ℕ) (tally : List ℕ) (u : ℕ) → length tally ≡ 64 → Client img time b

@@ -16,6 +16,7 @@ ghost use Rattle.keys.specs.Asked.{ids_rows, span};
 use crate::visit::Span;
 use crate::{key_at, reach, visit};
 use image::header;
+use image::known::Image;
 use image::layout::NUMBER;
 use image::trailer::Trailer;
 use kinds::limits::MOST_IDS;
@@ -79,7 +80,12 @@ fn tried(client: User, key: u32, count: u32, ids: &[u8], img: &[u8]) -> Result<S
     let Trailer { n, clock } = front::reading(client, img)?;
     asked(n, key, count, ids.len())?;
     let from = key as usize;
-    let found = visit::visit(img, n, clock, client, from, reach(n, from), count);
+    let image = Image {
+        bytes: img,
+        n,
+        clock,
+    };
+    let found = visit::visit(image, client, from, reach(n, from), count);
     let visited = found.ok_or(Report::Damaged)?;
     Ok(Span { n, from, visited })
 }

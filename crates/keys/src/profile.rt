@@ -17,6 +17,7 @@ use crate::visit::Span;
 use crate::{key_at, managed, reach, visit};
 use image::header;
 use image::header::Header;
+use image::known::Image;
 use image::layout::{ENTRY, PROFILE_ROOM};
 use image::trailer::Trailer;
 use kinds::{ProfileAnswer, Report, User};
@@ -75,11 +76,15 @@ fn tried(client: User, key: u32, buffer: &[u8], img: &[u8]) -> Result<Span, Repo
     managed(n, client, key, buffer.len() < PROFILE_ROOM)?;
     let from = key as usize;
     let visited = reach(n, from);
-    let span = Span { n, from, visited };
-    if !visit::all_good(img, clock, span) {
+    let image = Image {
+        bytes: img,
+        n,
+        clock,
+    };
+    if !visit::all_good(image, from, visited) {
         return Err(Report::Damaged);
     }
-    Ok(span)
+    Ok(Span { n, from, visited })
 }
 
 // The answer of a call that is not refused, its entries in the buffer.

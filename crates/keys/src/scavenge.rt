@@ -9,7 +9,7 @@ ghost use Rattle.promise.specs.Layout.{header_at};
 ghost use Rattle.promise.specs.Refusals.{receipt};
 ghost use Rattle.promise.specs.Keys.{key_at, reach, visited_good};
 ghost use Rattle.promise.specs.Scavenge.{scavenge_damaged, scavenge_report, ScavengePromise};
-ghost use Rattle.image.specs.Image.{Laid, Known};
+ghost use Rattle.image.specs.Image.{Laid};
 ghost use Rattle.keys.specs.Marks.{loser_of, marked, raised_by, has_count, freed, lowered, owes, lowered_by};
 ghost use Rattle.keys.specs.Marks.{removed_by, Marks, Tallies};
 ghost use Rattle.front.specs.Rows.{answered};
@@ -17,6 +17,7 @@ ghost use Rattle.keys.specs.Asked.{span};
 
 use crate::visit::Span;
 use crate::{key_at, managed, reach, visit};
+use image::known::Image;
 use image::trailer::Trailer;
 use image::{counts, header, map, trailer};
 use kinds::limits::{CLIENTS, MOST_HEADERS};
@@ -36,9 +37,8 @@ fn loser(img: &[u8], time: Tick, b: usize) -> Option<User>
 }
 
 // One more for a client that loses a block.
-fn tally_loss(who: Option<User>, tally: &mut [u32])
-    requires { (length tally.old ≡ 64) × ((u : ℕ) → u < 64 → get_or tally.old u 0 ≤ 64)
-        × IfSome who (λ u. u.0 < 64) }
+fn tally_loss(who: Option<User>, tally: &mut [u32; CLIENTS])
+    requires { ((u : ℕ) → u < 64 → get_or tally.old u 0 ≤ 64) × IfSome who (λ u. u.0 < 64) }
     ensures { tally.new ≡ raised_by who tally.old }
 {
     if let Some(u) = who {
@@ -47,10 +47,15 @@ fn tally_loss(who: Option<User>, tally: &mut [u32])
 }
 
 // Marks the blocks visited, and counts those that each client loses.
-fn mark_all(img: &[u8], time: Tick, span: Span, marks: &mut [bool], tally: &mut [u32])
-    requires { (header_at (span.from + span.visited) ≤ length img.now) × (span.visited ≤ 64) × (length marks.old ≡ 64)
-        × (length tally.old ≡ 64) × ((u : ℕ) → get_or tally.old u 0 ≡ 0)
-        × (visited_good img.now span.from span.visited ≡ true) }
+fn mark_all(
+    img: &[u8],
+    time: Tick,
+    span: Span,
+    marks: &mut [bool; MOST_HEADERS],
+    tally: &mut [u32; CLIENTS],
+)
+    requires { (header_at (span.from + span.visited) ≤ length img.now) × (span.visited ≤ 64)
+        × ((u : ℕ) → get_or tally.old u 0 ≡ 0) × (visited_good img.now span.from span.visited ≡ true) }
     ensures marks { Marks img.now time.0 span.from span.visited marks.new }
     ensures tally { Tallies img.now time.0 span.from span.visited tally.new }
 {
@@ -63,8 +68,8 @@ fn mark_all(img: &[u8], time: Tick, span: Span, marks: &mut [bool], tally: &mut 
 }
 
 // Whether a client's count is not below its tally.
-fn has_count(img: &[u8], n: usize, u: User, tally: &[u32]) -> bool
-    requires { Laid img.now n × (u.0 < 64) × (length tally.now ≡ 64) }
+fn has_count(img: &[u8], n: usize, u: User, tally: &[u32; CLIENTS]) -> bool
+    requires { Laid img.now n × (u.0 < 64) }
     ensures { result ≡ has_count n img.now tally.now u.0 }
 {
     let k = u64::from(tally[u.0 as usize]);
@@ -72,8 +77,8 @@ fn has_count(img: &[u8], n: usize, u: User, tally: &[u32]) -> bool
 }
 
 // Whether no client's count is below its tally.
-fn has_counts(img: &[u8], n: usize, tally: &[u32]) -> bool
-    requires { Laid img.now n × (length tally.now ≡ 64) }
+fn has_counts(img: &[u8], n: usize, tally: &[u32; CLIENTS]) -> bool
+    requires { Laid img.now n }
     ensures { result ≡ all_of (has_count n img.now tally.now) 0 64 }
 {
     for u in 0..CLIENTS as u32 {
@@ -99,9 +104,8 @@ fn free_one(img: &mut [u8], n: usize, b: usize, goes: bool) -> usize
 }
 
 // Zeroes the headers and frees the bits of the blocks that are to go, from the lowest; their number.
-fn free_blocks(img: &mut [u8], span: Span, marks: &[bool]) -> usize
-    requires { Laid img.old span.n × (span.from + span.visited ≤ span.n) × (span.visited ≤ 64)
-        × (length marks.now ≡ 64) }
+fn free_blocks(img: &mut [u8], span: Span, marks: &[bool; MOST_HEADERS]) -> usize
+    requires { Laid img.old span.n × (span.from + span.visited ≤ span.n) × (span.visited ≤ 64) }
     ensures gone { result ≡ length (picked (marked marks.now span.from) span.from span.visited) }
     ensures image { img.new ≡ each (freed span.n) img.old
         (picked (marked marks.now span.from) span.from span.visited) }
@@ -126,8 +130,8 @@ fn lower_one(img: &mut [u8], n: usize, u: User, k: u32)
 }
 
 // Lowers the counts of the clients that have a tally, each by as much.
-fn lower_counts(img: &mut [u8], n: usize, tally: &[u32])
-    requires { Laid img.old n × (length tally.now ≡ 64) }
+fn lower_counts(img: &mut [u8], n: usize, tally: &[u32; CLIENTS])
+    requires { Laid img.old n }
     ensures { img.new ≡ each (lowered_by n tally.now) img.old
         (picked (owes tally.now) 0 64) }
 {
@@ -137,9 +141,14 @@ fn lower_counts(img: &mut [u8], n: usize, tally: &[u32])
 }
 
 // Removes the blocks that are to go: the clock, their headers and bits from the lowest, the counts. Their number.
-fn remove(img: &mut [u8], span: Span, time: Tick, marks: &[bool], tally: &[u32]) -> usize
+fn remove(
+    img: &mut [u8],
+    span: Span,
+    time: Tick,
+    marks: &[bool; MOST_HEADERS],
+    tally: &[u32; CLIENTS],
+) -> usize
     requires { Laid img.old span.n × (span.from + span.visited ≤ span.n) × (span.visited ≤ 64)
-        × (length marks.now ≡ 64) × (length tally.now ≡ 64)
         × Marks img.old time.0 span.from span.visited marks.now
         × Tallies img.old time.0 span.from span.visited tally.now }
     ensures gone { result ≡ length (picked (marked marks.now span.from) span.from span.visited) }
@@ -158,25 +167,23 @@ fn remove(img: &mut [u8], span: Span, time: Tick, marks: &[bool], tally: &[u32])
 // Whether all is well: the headers visited are good, and no count would fall below 0. Where it is, the blocks visited
 // are marked, and those that are to go are tallied by their owners.
 fn decide(
-    img: &[u8],
+    image: Image,
     span: Span,
-    clock: Tick,
     time: Tick,
-    marks: &mut [bool],
-    tally: &mut [u32],
+    marks: &mut [bool; MOST_HEADERS],
+    tally: &mut [u32; CLIENTS],
 ) -> bool
-    requires { Known img.now span.n clock.0 × (span.from + span.visited ≤ span.n)
-        × (span.visited ≡ Run.reach span.n span.from)
-        × (length marks.old ≡ 64) × (length tally.old ≡ 64) × ((u : ℕ) → get_or tally.old u 0 ≡ 0) }
-    ensures answer { result ≡ not (scavenge_damaged img.now span.from time.0) }
-    ensures marks { result ≡ true → Marks img.now time.0 span.from span.visited marks.new }
-    ensures tally { result ≡ true → Tallies img.now time.0 span.from span.visited tally.new }
+    requires { (span.from + span.visited ≤ image.n) × (span.visited ≡ Run.reach image.n span.from)
+        × ((u : ℕ) → get_or tally.old u 0 ≡ 0) }
+    ensures answer { result ≡ not (scavenge_damaged image.entry.bytes.now span.from time.0) }
+    ensures marks { result ≡ true → Marks image.entry.bytes.now time.0 span.from span.visited marks.new }
+    ensures tally { result ≡ true → Tallies image.entry.bytes.now time.0 span.from span.visited tally.new }
 {
-    if !visit::all_good(img, clock, span) {
+    if !visit::all_good(image, span.from, span.visited) {
         return false;
     }
-    mark_all(img, time, span, marks, tally);
-    has_counts(img, span.n, tally)
+    mark_all(image.bytes, time, span, marks, tally);
+    has_counts(image.bytes, image.n, tally)
 }
 
 // All tests of Scavenge: what it visits, or the report that refuses it. Where they pass, the blocks visited are marked,
@@ -186,10 +193,10 @@ fn tried(
     key: u32,
     time: Tick,
     img: &[u8],
-    marks: &mut [bool],
-    tally: &mut [u32],
+    marks: &mut [bool; MOST_HEADERS],
+    tally: &mut [u32; CLIENTS],
 ) -> Result<Span, Report>
-    requires { (length marks.old ≡ 64) × (length tally.old ≡ 64) × ((u : ℕ) → get_or tally.old u 0 ≡ 0) }
+    requires { (u : ℕ) → get_or tally.old u 0 ≡ 0 }
     ensures report { result ≡ answered (scavenge_report img.now client.0 key time.0)
         (span img.now key (reach img.now key)) }
     ensures marks { OnOk result (Marks img.now time.0 key (reach img.now key) marks.new) }
@@ -200,7 +207,12 @@ fn tried(
     let from = key as usize;
     let visited = reach(n, from);
     let span = Span { n, from, visited };
-    if !decide(img, span, clock, time, marks, tally) {
+    let image = Image {
+        bytes: img,
+        n,
+        clock,
+    };
+    if !decide(image, span, time, marks, tally) {
         return Err(Report::Damaged);
     }
     Ok(span)
@@ -211,12 +223,11 @@ fn give_scavenge(
     t: Tariff,
     time: Tick,
     span: Span,
-    marks: &[bool],
-    tally: &[u32],
+    marks: &[bool; MOST_HEADERS],
+    tally: &[u32; CLIENTS],
     img: &mut [u8],
 ) -> ScavengeAnswer
     requires { Laid img.old span.n × (span.from + span.visited ≤ span.n) × (span.visited ≤ 64)
-        × (length marks.now ≡ 64) × (length tally.now ≡ 64)
         × Marks img.old time.0 span.from span.visited marks.now
         × Tallies img.old time.0 span.from span.visited tally.now }
     ensures answer { result ≡ record {
@@ -241,7 +252,7 @@ pub fn scavenge(t: Tariff, client: User, key: u32, time: Tick, img: &mut [u8]) -
     ensures { ScavengePromise t img.old client.0 key time.0 result img.new }
 {
     let mut marks = [false; MOST_HEADERS];
-    let mut tally = [0u32; CLIENTS];
+    let mut tally = [0; CLIENTS];
     match tried(client, key, time, img, &mut marks, &mut tally) {
         Err(r) => ScavengeAnswer {
             receipt: front::refused(t, r),

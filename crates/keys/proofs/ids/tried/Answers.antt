@@ -25,7 +25,7 @@ pub visit-found-requires : goal.visit-found-requires
 visit-found-requires c =
     let a = c.args in
     let k = below a.img.now a.client.0 a.key a.count a.ids.now _ (sym c.asked.ensures ∙ c.in_ok-asked.was) in
-    (reading_known _ _ _ (sym c.reading.ensures ∙ c.in_ok-n.was), omega (arith, c.reach.ensures))
+    omega (arith, c.reach.ensures)
 
 pub returns-in_err-visited : goal.returns-in_err-visited
 returns-in_err-visited c =
@@ -38,3 +38,6 @@ pub returns : goal.returns
 returns c =
     tried_well _ _ _ _ _ _ (sym c.reading.ensures ∙ c.in_ok-n.was) (sym c.asked.ensures ∙ c.in_ok-asked.was) _
     c.reach.ensures c.in_ok-visited.visited (cc (c.in_ok-visited.was, c.ok_or.ensures.value, c.visit-found.ensures))
+
+pub invariant_of-image : goal.invariant_of-image
+invariant_of-image c = record { known = reading_known _ _ _ (sym c.reading.ensures ∙ c.in_ok-n.was) }

@@ -23,7 +23,6 @@ reach-visited-requires c =
 pub all_good-requires : goal.all_good-requires
 all_good-requires c =
     let k = below _ _ _ _ (sym c.managed.ensures ∙ c.in_ok-managed.was) in (
-      reading_known _ _ _ (sym c.reading.ensures ∙ c.in_ok-n.was),
       omega (arith, c.reach-visited.ensures),
       omega (arith, c.reach-visited.ensures),
     )
@@ -37,3 +36,6 @@ pub returns : goal.returns
 returns c = tried_well _ _ _ _ _ (sym c.reading.ensures ∙ c.in_ok-n.was)
     (sym c.managed.ensures ∙ c.in_ok-managed.was) _ c.reach-visited.ensures
     (sym c.all_good.ensures ∙ c.if-not-all_good.false)
+
+pub invariant_of-image : goal.invariant_of-image
+invariant_of-image c = record { known = reading_known _ _ _ (sym c.reading.ensures ∙ c.in_ok-n.was) }

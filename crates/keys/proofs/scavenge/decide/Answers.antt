@@ -7,7 +7,7 @@ use Rattle.keys.proofs.scavenge.decide.Goals as goal
 pub returns-then-not-all_good : goal.returns-then-not-all_good
 returns-then-not-all_good c =
     let p = c.requires in record {
-      answer = bad_header _ _ _ _ _ p.0.its_n p.2
+      answer = bad_header _ _ _ _ _ c.args.image.known.its_n p.1
           (sym c.all_good.ensures ∙ c.if-not-all_good.true);
       marks = λ e. absurd (true≢false (sym e));
       tally = λ e. absurd (true≢false (sym e));
@@ -18,7 +18,7 @@ returns c =
     let a = c.args in
     let g = sym c.all_good.ensures ∙ c.if-not-all_good.false in record {
       answer = c.has_counts.ensures
-          ∙ decided a.img.now a.time.0 a.span.from a.span.visited g a.span.n c.requires.0.its_n c.requires.2
+          ∙ decided a.image.bytes.now a.time.0 a.span.from a.span.visited g a.image.n a.image.known.its_n c.requires.1
           c.mark_all.new.tally c.mark_all.ensures.tally;
       marks = λ e. c.mark_all.ensures.marks;
       tally = λ e. c.mark_all.ensures.tally;

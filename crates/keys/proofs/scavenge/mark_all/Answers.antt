@@ -3,29 +3,29 @@
 use Prim.Native.Nat.{◌+◌}
 use mathlib.Core.Path.{refl, ap, ◌∙◌}
 use native.Mathlib.Omega.{arith}
-use lib.ListN.{length-set}
+use borrow.Author.Rules.{rules}
+use lib.ListN.{length, length-set}
 use Rattle.std.specs.Prelude.{Option, is_some}
 use Rattle.kinds.specs.declared.User.{User}
-use Rattle.keys.proofs.Marks.{owner_below, is_loser, client_loses}
+use Rattle.keys.proofs.Marks.{length-raised, owner_below, is_loser, client_loses}
 use Rattle.keys.proofs.Marks.{marked_on, tally_begun, tally_turn, tally_end, tally_few}
 use Rattle.keys.proofs.scavenge.mark_all.Goals as goal
 
 pub loop-i-init : goal.loop-i-init
 loop-i-init c =
     let a = c.args in (
-      refl,
-      refl,
+      search rules,
+      search rules,
       λ j h. absurd (omega arith),
-      tally_begun a.img.now a.time.0 a.span.from a.span.visited a.tally.now c.requires.4,
+      tally_begun a.img.now a.time.0 a.span.from a.span.visited a.tally.now c.requires.2,
     )
 
 pub tally_loss-requires : goal.tally_loss-requires
 tally_loss-requires c =
     let a = c.args in
     let l = c.loop-i in
-    let o = owner_below a.img.now a.time.0 a.span.from a.span.visited c.requires.5 (a.span.from + l.i)
+    let o = owner_below a.img.now a.time.0 a.span.from a.span.visited c.requires.3 (a.span.from + l.i)
     (omega arith) (omega arith) in (
-      l.invariant.1 ∙ c.requires.3,
       λ u h. omega
           (arith, tally_few a.img.now a.time.0 a.span.from a.span.visited l.tally l.i l.invariant.3 u h, c.requires.1),
       rw c.loser-who.ensures (client_loses a.img.now a.time.0 (a.span.from + l.i) o),
@@ -36,15 +36,15 @@ loop-i-preserved c =
     let a = c.args in
     let l = c.loop-i in
     let b = a.span.from + l.i in
-    let o = owner_below a.img.now a.time.0 a.span.from a.span.visited c.requires.5 b (omega arith) (omega arith) in
+    let o = owner_below a.img.now a.time.0 a.span.from a.span.visited c.requires.3 b (omega arith) (omega arith) in
     let gone = c.is_some.ensures ∙ ap (λ (x : Option User). is_some x) c.loser-who.ensures
     ∙ is_loser a.img.now a.time.0 b in (
       length-set l.marks l.i c.is_some.result ∙ l.invariant.0,
-      c.tally_loss.auto.tally ∙ l.invariant.1,
-      marked_on a.img.now a.time.0 a.span.from l.i l.marks _ (omega (arith, c.requires.2, l.invariant.0)) gone
+      ap length c.tally_loss.ensures ∙ length-raised _ _ ∙ l.invariant.1,
+      marked_on a.img.now a.time.0 a.span.from l.i l.marks _ (omega (arith, l.invariant.0)) gone
           l.invariant.2,
       rw (c.tally_loss.ensures, c.loser-who.ensures) (tally_turn a.img.now a.time.0 a.span.from a.span.visited l.tally
-          l.i (omega arith) (l.invariant.1 ∙ c.requires.3) o l.invariant.3),
+          l.i (omega arith) l.invariant.1 o l.invariant.3),
     )
 
 pub returns : goal.returns

@@ -6,14 +6,14 @@ use Rattle.keys.proofs.Sweeps.{refuses, room_for, sweeps}
 use Rattle.keys.proofs.scavenge.scavenge.Goals as goal
 
 pub tried-requires : goal.tried-requires
-tried-requires c = (refl, refl, zeros 64)
+tried-requires c = zeros 64
 
 pub give_scavenge-requires : goal.give_scavenge-requires
 give_scavenge-requires c =
     let t = c.tried in
     let r = room_for _ _ _ _ _ (sym c.in-Ok.is ∙ t.ensures.report) t.new.marks
     c.in-Ok.ensures.marks t.new.tally c.in-Ok.ensures.tally in
-    (r.0, r.1, r.2, t.auto.marks, t.auto.tally, r.3, r.4)
+    (r.0, r.1, r.2, r.3, r.4)
 
 pub returns-in-Err : goal.returns-in-Err
 returns-in-Err c = rw c.refused.ensures (refuses _ _ _ _ _ _ (sym c.in-Err.is ∙ c.tried.ensures.report))

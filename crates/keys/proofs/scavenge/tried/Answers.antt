@@ -32,12 +32,9 @@ reach-visited-requires c =
 pub decide-requires : goal.decide-requires
 decide-requires c =
     let k = below _ _ _ _ (sym c.managed.ensures ∙ c.in_ok-managed.was) in (
-      changing_known _ _ _ _ _ (sym c.changing.ensures ∙ c.in_ok-n.was),
       omega (arith, c.reach-visited.ensures),
       c.reach-visited.ensures,
-      c.requires.0,
-      c.requires.1,
-      c.requires.2,
+      c.requires,
     )
 
 pub returns-then-not-decide : goal.returns-then-not-decide
@@ -59,3 +56,6 @@ returns c =
       marks = rw k at (c.decide.ensures.marks well);
       tally = rw k at (c.decide.ensures.tally well);
     }
+
+pub invariant_of-image : goal.invariant_of-image
+invariant_of-image c = record { known = changing_known _ _ _ _ _ (sym c.changing.ensures ∙ c.in_ok-n.was) }
