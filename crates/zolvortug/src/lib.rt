@@ -33,7 +33,7 @@ pub extern "C" fn zolvortug_format(n: u32, img: &mut [u8]) -> u8
     ensures report { result ≡ number_of (format_report n img.old) }
     ensures image { img.new ≡ format_image n img.old }
 {
-    image::format::format(n, img).into()
+    u8::from(image::format::format(n, img))
 }
 
 #[unsafe(no_mangle)]

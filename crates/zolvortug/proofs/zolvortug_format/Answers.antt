@@ -6,4 +6,4 @@ use Rattle.zolvortug.proofs.zolvortug_format.Goals as goal
 pub returns : goal.returns
 returns c =
     let promise = c.format.ensures in
-    record { report = c.into.ensures ∙ ap number_of promise.report; image = promise.image }
+    record { report = c.from.ensures ∙ ap number_of promise.report; image = promise.image }
