@@ -2,7 +2,10 @@
 -- it at their lowest bit.
 -- Assumes nothing.
 use Rattle.std.proofs.Common.{◌≡◌, ℕ, zero, suc, ◌+◌, ◌-◌, ◌*◌, ◌/◌, ◌%◌, ◌^◌, ◌<◌, ◌≤◌, cond, eqb, List, length, sym}
-use Rattle.std.proofs.Common.{refl, ap, ◌∙◌, add-zero, arith, shr-shr}
+use Rattle.std.proofs.Common.{refl, ap, ◌∙◌, add-zero, ltb, arith, shr-shr}
+use native.Mathlib.Nat.{sub-zero}
+use Rattle.std.specs.Prelude.{Some, None}
+use borrow.Author.Tests.{lt-ltb, le-ltb, ltb-true, ltb-false}
 use lib.Count.{under, count_trailing_zeros}
 use Rattle.word.specs.Word.{word_at, Bytes}
 use Rattle.word.proofs.WordBits.{word_bit}
@@ -11,7 +14,10 @@ use Rattle.run.proofs.Laws.{first_within, first_beyond, first-moved}
 use Rattle.run.proofs.Turns.{first_end}
 use Rattle.promise.specs.Layout.{map_at}
 use Rattle.promise.specs.Map.{free}
-use Rattle.image.specs.Image.{bit_of}
+use Rattle.plain.specs.Tests.{was_first, was_second, apart}
+use Rattle.kinds.specs.Kinds.{block_num}
+use Rattle.kinds.specs.declared.BlockNum.{BlockNum}
+use Rattle.image.specs.Image.{bit_of, lowest_from}
 
 -- ---- the lowest bit is the count of the zeros below it
 
@@ -81,11 +87,44 @@ module _ (n : ℕ) (img : List ℕ) (i k m : ℕ) (bits : (j : ℕ) → j < k �
   lowest_turn q =
       rw (rest, first_beyond (free n img) i k (n - (i + k)) (its_first ∙ rw (q, none k)))
 
+  pub lowest_below : 0 < m → m < 2 ^ k → i + count_trailing_zeros k m < n
+  lowest_below l u = omega (arith, trailing_lt k m l u)
+
   pub lowest_here : 0 < m → m < 2 ^ k → i + count_trailing_zeros k m ≡ first (free n img) i (n - i)
   lowest_here l u =
       rw (rest, first_within (free n img) i k (n - (i + k)) (omega (arith, its_first, trailing_lt k m l u)))
       (sym its_first)
 
--- no block is left
-pub lowest_end : (n : ℕ) (img : List ℕ) → n ≡ first (free n img) n (n - n)
-lowest_end n img = omega (arith, first_end (free n img) n (n - n) (omega arith))
+-- what is found, and where no block is left
+pub some_free : (n : ℕ) (img : List ℕ) (b x : ℕ) → x ≡ first (free n img) b (n - b) → x < n
+    → Some (block_num x) ≡ lowest_from n img b
+unfolding lowest_from
+some_free n img b x e h = sym (rw (← e, lt-ltb x n h))
+
+pub none_free : (n : ℕ) (img : List ℕ) (b : ℕ) → first (free n img) n (n - n) ≡ first (free n img) b (n - b)
+    → None ≡ lowest_from n img b
+unfolding lowest_from
+none_free n img b e =
+    let z : n ≡ first (free n img) b (n - b) = omega (arith, first_end (free n img) n (n - n) (omega arith), e) in
+    sym (rw (← z, le-ltb n n (omega arith)))
+
+pub same_lowest : (n : ℕ) (img : List ℕ) (a b : ℕ) → first (free n img) a (n - a) ≡ first (free n img) b (n - b)
+    → lowest_from n img a ≡ lowest_from n img b
+unfolding lowest_from
+same_lowest n img a b e = rw e
+
+-- what the answer tells
+pub told_none : (n : ℕ) (img : List ℕ) → lowest_from n img 0 ≡ None → n ≤ first (free n img) 0 n
+unfolding lowest_from
+told_none n img f =
+    let w = was_second (ltb (first (free n img) 0 (n - 0)) n) (λ z. apart cc) f in
+    rw sub-zero at (ltb-false (first (free n img) 0 (n - 0)) n w.0)
+
+pub told_some : (n : ℕ) (img : List ℕ) (b : BlockNum) → lowest_from n img 0 ≡ Some b
+    → (first (free n img) 0 n ≡ b.0) × (b.0 < n)
+unfolding lowest_from
+told_some n img b f =
+    let w = was_first (ltb (first (free n img) 0 (n - 0)) n) (λ z. apart cc) f in
+    let t : block_num (first (free n img) 0 (n - 0)) ≡ b = cc w.1 in
+    let q = ap (λ (x : BlockNum). x.0) t in
+    (rw sub-zero at q, rw q at (ltb-true (first (free n img) 0 (n - 0)) n w.0))

@@ -1,16 +1,17 @@
 -- What a caller knows of an image whose trailer it has read; what that reading answers; and the parts of document 01's
 -- rules that the code tests one after the other.
-use Rattle.std.specs.Prelude.{◌≡◌, ℕ, ◌+◌, ◌/◌, ◌%◌, ◌^◌, ◌<◌, Bool, ◌&&◌, ltb, List, [], ◌∷◌, map, length, ◌==◌}
+use Rattle.std.specs.Prelude.{◌≡◌, ℕ, ◌+◌, ◌/◌, ◌-◌, ◌%◌, ◌^◌, ◌<◌, Bool, ◌&&◌, ltb, List, [], ◌∷◌, map, length, ◌==◌}
 use Rattle.std.specs.Prelude.{nat_eq, nat_le, nat_lt, slice_index, slice_set, Option, Some, None}
 use Rattle.plain.specs.Tests.{when}
 use Rattle.word.specs.Word.{part, le, word_at, all_zero}
-use Rattle.kinds.specs.Kinds.{tick}
-use Rattle.run.specs.Run.{picked, all_of, times}
+use Rattle.kinds.specs.Kinds.{tick, block_num}
+use Rattle.kinds.specs.declared.BlockNum.{BlockNum}
+use Rattle.run.specs.Run.{first, picked, all_of, times}
 use Rattle.promise.specs.Layout.{size_of, end_of_time}
 use Rattle.promise.specs.Trailer.{n_of, clock_of, back_to_headers, back_to_map, back_to_counts, back_to_data, mark}
 use Rattle.promise.specs.Trailer.{trailer_right}
 use Rattle.promise.specs.Header.{header_of, is_used, owner_of, created_of, expires_of}
-use Rattle.promise.specs.Map.{spare_zero, good}
+use Rattle.promise.specs.Map.{free, spare_zero, good}
 use Rattle.promise.specs.Counts.{count_of, owners}
 use Rattle.promise.proofs.TrailerLaws.{Number}
 use Rattle.image.specs.declared.trailer.Trailer.{Trailer}
@@ -62,6 +63,12 @@ time_tests clock h = nat_le 1 (created_of h) ∷ nat_le (created_of h) clock ∷
 -- bit j of a byte is 1
 unfoldable pub bit_of : (m j : ℕ) → Bool
 bit_of m j = m / 2 ^ j % 2 == 1
+
+-- the lowest free block of those from b up to n
+unfoldable pub lowest_from : (n : ℕ) → List ℕ → (b : ℕ) → Option BlockNum
+lowest_from n img b =
+    let x : ℕ = first (free n img) b (n - b) in
+    when (ltb x n) (Some (block_num x)) None
 
 -- a tally of owners with one more block for the owner of a used header
 unfoldable pub tallied : (h tally : List ℕ) → List ℕ

@@ -1,10 +1,8 @@
 // The map: which blocks are free.
 ghost use Rattle.std.specs.Prelude.{◌≡◌, ◌-◌, ◌*◌, ◌/◌, ◌^◌, ◌<◌, ◌≤◌, true, [], ◌∷◌};
-ghost use Rattle.kinds.specs.Kinds.{block_num};
 ghost use Rattle.word.specs.Write.{puts};
-ghost use Rattle.run.specs.Run.{first};
 ghost use Rattle.promise.specs.Map.{free, spare_zero, bit_taken, bit_freed};
-ghost use Rattle.image.specs.Image.{Laid};
+ghost use Rattle.image.specs.Image.{Laid, lowest_from};
 
 use crate::layout::{DISK_BLOCK, HEADER};
 use kinds::BlockNum;
@@ -61,29 +59,29 @@ pub fn free_bit(img: &mut [u8], n: usize, b: BlockNum)
     u8::put(img, at, ((m + w) % 256) as u8)
 }
 
-// The lowest free block from byte `from` of the map on, n where there is none. Of a byte that is 0 no bit is looked at.
-fn free_from(img: &[u8], n: usize, from: usize) -> BlockNum
+// The lowest free block from byte `from` of the map on. Of a byte that is 0 no bit is looked at.
+fn free_from(img: &[u8], n: usize, from: usize) -> Option<BlockNum>
     requires { Laid img.now n × (from ≤ n / 8) }
-    ensures { result ≡ block_num (first (free n img.now) (8 * from) (n - 8 * from)) }
+    ensures { result ≡ lowest_from n img.now (8 * from) }
 {
     for i in from..n / 8 {
         let m = u8::get(img, HEADER * n + i);
         if m != 0 {
-            return BlockNum((8 * i + m.trailing_zeros() as usize) as u32);
+            return Some(BlockNum((8 * i + m.trailing_zeros() as usize) as u32));
         }
     }
-    BlockNum(n as u32)
+    None
 }
 
-// The lowest free block, n where there is none: 8 bytes of the map at a time, then what is left.
-pub fn lowest_free(img: &[u8], n: usize) -> BlockNum
+// The lowest free block: 8 bytes of the map at a time, then what is left.
+pub fn lowest_free(img: &[u8], n: usize) -> Option<BlockNum>
     requires { Laid img.now n }
-    ensures { result ≡ block_num (first (free n img.now) 0 n) }
+    ensures { result ≡ lowest_from n img.now 0 }
 {
     for i in 0..n / 64 {
         let m = u64::get(img, HEADER * n + 8 * i);
         if m != 0 {
-            return BlockNum((64 * i + m.trailing_zeros() as usize) as u32);
+            return Some(BlockNum((64 * i + m.trailing_zeros() as usize) as u32));
         }
     }
     free_from(img, n, n / 64 * 8)

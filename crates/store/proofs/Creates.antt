@@ -1,6 +1,7 @@
 -- What Create answers and leaves, in the cases that the code tells apart.
 -- Assumes nothing.
-use Rattle.std.specs.Prelude.{Result, Ok, Err}
+use Rattle.std.specs.Prelude.{Result, Ok, Err, Option, Some, None}
+use Rattle.std.specs.Option.{ok_or}
 use Prim.Native.Nat.{ℕ, ◌+◌, ◌^◌, ◌≤◌, ◌<◌}
 use mathlib.Core.Path.{◌≡◌, refl, sym, ap, ◌∙◌}
 use mathlib.Core.Bool.{Bool, true, false, not, ◌&&◌, ◌||◌}
@@ -11,7 +12,7 @@ use borrow.Author.Tests.{lt-ltb, le-ltb, le-leb, lt-leb, leb-false, not-false, e
 use lib.Dec.{eqb, leb, ltb}
 use lib.ListN.{length}
 use Rattle.plain.specs.Numbers.{lt_or_le}
-use Rattle.plain.specs.Tests.{when}
+use Rattle.plain.specs.Tests.{when, apart}
 use Rattle.word.specs.Write.{puts}
 use Rattle.kinds.specs.Kinds.{ident, block_num}
 use Rattle.kinds.specs.declared.BlockNum.{BlockNum}
@@ -35,7 +36,8 @@ use Rattle.promise.specs.Create.{CreatePromise, create_answer, create_image, cre
 use Rattle.promise.specs.Create.{create_damaged, lowest_free, no_space}
 use Rattle.image.specs.Image.{Laid, Known}
 use Rattle.image.proofs.Checks.{known}
-use Rattle.image.specs.Image.{trailer_in}
+use Rattle.image.proofs.Lowest.{told_none, told_some}
+use Rattle.image.specs.Image.{trailer_in, lowest_from}
 use Rattle.image.specs.declared.trailer.Trailer.{Trailer}
 use Rattle.front.specs.Rows.{bad_times, reading_rows, time_rows, changing_rows, front_of, answered}
 use Rattle.promise.proofs.RowLaws.{clear, passed, same_rest}
@@ -64,6 +66,10 @@ pub record Free (img : List ℕ) (client expiry : ℕ) (bytes : List ℕ) (time 
 passes : (img : List ℕ) → lowest_free img < n_of img → free (n_of img) img (lowest_free img) ≡ true
 unfolding lowest_free
 passes img h = first_passes (free (n_of img) img) 0 (n_of img) (omega arith)
+
+pub free_told : (o l : Option BlockNum) (b : BlockNum) → o ≡ l → ok_or o NoSpace ≡ Ok b → l ≡ Some b
+free_told None l b p e = absurd (apart cc)
+free_told (Some x) l b p e = let q : x ≡ b = cc e in sym p ∙ ap Some q
 
 -- ---- the count is looked at last, though its row stands before that of no space
 
@@ -124,20 +130,29 @@ module _ (img : List ℕ) (client expiry : ℕ) (bytes : List ℕ) (time : ℕ) 
     unfolding answered lowest
     bad_room d = sym by_rest ∙ rw (ne_eqb (length bytes) 528 d)
 
-    module _ (q : length bytes ≡ 528) (b : BlockNum) (f : b ≡ block_num (first (free t.n img) 0 t.n)) where
-      its_b : lowest_free img ≡ b.0
-      unfolding lowest_free
-      its_b = rw opened.its_n (sym (ap (λ (x : BlockNum). x.0) f))
+    module _ (q : length bytes ≡ 528) where
+      pub no_block : lowest_from t.n img 0 ≡ None → create_tested ≡ Err NoSpace
+      unfolding answered lowest lowest_free
+      no_block f =
+          let h = told_none t.n img f in
+          sym by_rest ∙ rw (eq-eqb (length bytes) 528 q, opened.its_n, le-ltb _ _ h, le-leb _ _ h)
 
-      pub no_block : t.n ≤ b.0 → create_tested ≡ Err NoSpace
-      unfolding answered lowest
-      no_block h = sym by_rest
-          ∙ rw (eq-eqb (length bytes) 528 q, its_b, opened.its_n, le-ltb b.0 t.n h, le-leb t.n b.0 h)
+      pub no_place : (o : Option BlockNum) → o ≡ lowest_from t.n img 0 → (r : Report) → ok_or o NoSpace ≡ Err r
+          → create_tested ≡ Err r
+      no_place None p r e = let q : NoSpace ≡ r = cc e in no_block (sym p) ∙ ap (λ (x : Report). Err x) q
+      no_place (Some b) p r e = absurd (apart cc)
 
-      module _ (h : b.0 < t.n) where
+      module _ (b : BlockNum) (f : lowest_from t.n img 0 ≡ Some b) where
+        its_b : lowest_free img ≡ b.0
+        unfolding lowest_free
+        its_b = rw opened.its_n (told_some t.n img b f).0
+
+        pub place_below : b.0 < t.n
+        place_below = (told_some t.n img b f).1
+
         pub bad_header : good img b.0 ≡ false → create_tested ≡ Err Damaged
         unfolding answered lowest
-        bad_header g = sym by_rest ∙ rw (eq-eqb (length bytes) 528 q, its_b, opened.its_n, lt-ltb b.0 t.n h, g)
+        bad_header g = sym by_rest ∙ rw (eq-eqb (length bytes) 528 q, its_b, opened.its_n, lt-ltb b.0 t.n place_below, g)
 
         module _ (g : good img b.0 ≡ true) (count : ℕ) (c : count ≡ count_of t.n img client) where
           pub bad_count : t.n ≤ count → create_tested ≡ Err Damaged
@@ -147,9 +162,9 @@ module _ (img : List ℕ) (client expiry : ℕ) (bytes : List ℕ) (time : ℕ) 
                 eq-eqb (length bytes) 528 q,
                 its_b,
                 opened.its_n,
-                lt-ltb b.0 t.n h,
+                lt-ltb b.0 t.n place_below,
                 g,
-                lt-leb t.n b.0 h,
+                lt-leb t.n b.0 place_below,
                 ← c,
                 le-leb t.n count l,
               )
@@ -161,9 +176,9 @@ module _ (img : List ℕ) (client expiry : ℕ) (bytes : List ℕ) (time : ℕ) 
                 eq-eqb (length bytes) 528 q,
                 its_b,
                 opened.its_n,
-                lt-ltb b.0 t.n h,
+                lt-ltb b.0 t.n place_below,
                 g,
-                lt-leb t.n b.0 h,
+                lt-leb t.n b.0 place_below,
                 ← c,
                 lt-leb t.n count l,
               )

@@ -40,10 +40,7 @@ fn seek_free(
     if bytes.len() != SERVICE_BLOCK {
         return Err(Report::BadRoom);
     }
-    let b = map::lowest_free(img, n);
-    if n <= (b.0 as usize) {
-        return Err(Report::NoSpace);
-    }
+    let b = map::lowest_free(img, n).ok_or(Report::NoSpace)?;
     let image = Image {
         bytes: img,
         n,

@@ -6,4 +6,4 @@ use Rattle.promise.specs.Map.{free}
 use Rattle.image.proofs.map.lowest_free.Given as goal
 
 abbrev pub invariant-loop-i : goal.invariant-loop-i
-invariant-loop-i l = first (free l.n l.img) (64 * l.i) (l.n - 64 * l.i) ≡ first (free l.n l.img) 0 l.n
+invariant-loop-i l = first (free l.n l.img) (64 * l.i) (l.n - 64 * l.i) ≡ first (free l.n l.img) 0 (l.n - 0)
