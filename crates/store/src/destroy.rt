@@ -1,10 +1,8 @@
 // Destroy: the header is zeroed, the bit freed and the count lowered. The data block's bytes stay.
-ghost use Rattle.std.specs.Prelude.{◌≡◌, false, [], ◌∷◌, ◌<◌, ◌^◌};
-ghost use Rattle.kinds.specs.Kinds.{money};
+ghost use Rattle.std.specs.Prelude.{◌≡◌, false, [], ◌∷◌, ◌<◌};
 ghost use Rattle.word.specs.Write.{puts};
-ghost use Rattle.tariff.specs.Charges.{destroy_charge};
 ghost use Rattle.promise.specs.Trailer.{clock_set};
-ghost use Rattle.promise.specs.Header.{header_of, header_zeroed, created_of, expires_of};
+ghost use Rattle.promise.specs.Header.{header_zeroed};
 ghost use Rattle.promise.specs.Map.{free, bit_freed};
 ghost use Rattle.promise.specs.Counts.{count_set};
 ghost use Rattle.promise.specs.Refusals.{lowest};
@@ -17,20 +15,8 @@ ghost use Rattle.store.specs.Store.{found, left_of};
 use crate::lookup;
 use crate::lookup::Found;
 use image::{counts, header, map, trailer};
-use kinds::{BlockNum, DestroyAnswer, Id, Money, Report, Tick, User};
+use kinds::{BlockNum, DestroyAnswer, Id, Report, Tick, User};
 use tariff::Tariff;
-
-// What it costs to destroy a block.
-fn charge_of(t: Tariff, n: usize, b: BlockNum, time: Tick, img: &[u8]) -> Money
-    requires { Laid img.now n × (b.0 < n) × (expires_of (header_of img.now b.0) < 2 ^ 40)
-        × (time.0 < 2 ^ 40) }
-    ensures { result ≡ money
-        (destroy_charge t (created_of (header_of img.now b.0))
-        (expires_of (header_of img.now b.0)) time.0) }
-{
-    let h = header::of(img, b.0 as usize);
-    tariff::destroy_charge(t, h.created(), h.expires(), time)
-}
 
 // The stores.
 fn erase(img: &mut [u8], n: usize, b: BlockNum, owner: User, count: u64, time: Tick)
@@ -65,7 +51,8 @@ pub fn destroy(t: Tariff, client: User, id: Id, time: Tick, img: &mut [u8]) -> D
             receipt: front::refused(t, r),
         },
         Ok((Found { n, b }, left)) => {
-            let charge = charge_of(t, n, b, time, img);
+            let h = header::of(img, b.0 as usize);
+            let charge = tariff::destroy_charge(t, h.created(), h.expires(), time);
             erase(img, n, b, client, left, time);
             DestroyAnswer {
                 receipt: front::done(charge),

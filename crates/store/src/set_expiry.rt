@@ -1,33 +1,17 @@
 // SetExpiry: a block's expires becomes the later of now and the asked expiry.
-ghost use Rattle.std.specs.Prelude.{◌≡◌, [], ◌∷◌, ◌+◌, ◌<◌, ◌^◌};
-ghost use Rattle.kinds.specs.Kinds.{money};
+ghost use Rattle.std.specs.Prelude.{◌≡◌, [], ◌∷◌, ◌+◌, ◌<◌};
 ghost use Rattle.word.specs.Word.{bytes_of};
 ghost use Rattle.word.specs.Write.{puts};
-ghost use Rattle.tariff.specs.Charges.{set_expiry_charge};
 ghost use Rattle.promise.specs.Layout.{header_at};
 ghost use Rattle.promise.specs.Trailer.{clock_set};
-ghost use Rattle.promise.specs.Header.{header_of, created_of, expires_of};
 ghost use Rattle.promise.specs.SetExpiry.{SetExpiryPromise};
 ghost use Rattle.image.specs.Image.{Laid};
 
 use crate::lookup::Found;
 use crate::{later_of, lookup};
 use image::{header, trailer};
-use kinds::{BlockNum, Id, Money, SetExpiryAnswer, Tick, User};
+use kinds::{BlockNum, Id, SetExpiryAnswer, Tick, User};
 use tariff::Tariff;
-
-// What it costs to keep a block until then.
-fn charge_of(t: Tariff, n: usize, b: BlockNum, until: Tick, img: &[u8]) -> Money
-    requires { Laid img.now n × (b.0 < n) × (expires_of (header_of img.now b.0) < 2 ^ 40)
-        × (until.0 < 2 ^ 40) }
-    ensures { result ≡ money
-        (set_expiry_charge t (created_of (header_of img.now b.0))
-        (expires_of (header_of img.now b.0)) (created_of (header_of img.now b.0))
-        until.0) }
-{
-    let h = header::of(img, b.0 as usize);
-    tariff::set_expiry_charge(t, h.created(), h.expires(), until)
-}
 
 // The stores.
 fn keep(img: &mut [u8], n: usize, b: BlockNum, until: Tick, time: Tick)
@@ -56,7 +40,8 @@ pub fn set_expiry(
         },
         Ok(Found { n, b }) => {
             let until = later_of(time, expiry);
-            let charge = charge_of(t, n, b, until, img);
+            let h = header::of(img, b.0 as usize);
+            let charge = tariff::set_expiry_charge(t, h.created(), h.expires(), until);
             keep(img, n, b, until, time);
             SetExpiryAnswer {
                 receipt: front::done(charge),
