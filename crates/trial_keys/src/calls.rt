@@ -1,6 +1,6 @@
 // A call that a line of the case file asks for, and what is seen of it.
 use kinds::limits::END_KEY;
-use kinds::{Receipt, Tick, User, Walk};
+use kinds::{Money, Receipt, Tick, User, Walk};
 use std::fmt;
 use tariff::Tariff;
 
@@ -19,6 +19,11 @@ pub(crate) const PRICES: Tariff = Tariff {
     error: 13,
     rate: 2,
 };
+
+// The lowest 32 bits of a number.
+pub(crate) fn low(x: u64) -> u32 {
+    (x % 4_294_967_296) as u32
+}
 
 #[derive(Clone, Copy)]
 pub(crate) enum Operation {
@@ -39,20 +44,35 @@ pub(crate) struct Call {
     pub image: usize,
 }
 
-// What is seen of a call, in the numbers of the case file.
+// What is seen of a call, or expected, in the numbers of the case file.
 #[derive(Clone, Copy, PartialEq, Eq)]
 pub(crate) struct Seen {
-    pub report: u8,
-    pub charge: i64,
-    pub key: u32,
+    pub report: u64,
+    pub charge: u64,
+    pub key: u64,
     // Entries, or a count.
-    pub number: u32,
+    pub number: u64,
     // 1 where the image changed.
-    pub image: u8,
+    pub image: u64,
     // How many bytes of the buffer there are up to the last that changed.
-    pub written: usize,
+    pub written: u64,
     // The record of a walk: 0 none or as it was, 1 moved to the key, 2 anything else.
-    pub record: u8,
+    pub record: u64,
+}
+
+impl From<[u64; 7]> for Seen {
+    fn from(n: [u64; 7]) -> Seen {
+        let [report, charge, key, number, image, written, record] = n;
+        Seen {
+            report,
+            charge,
+            key,
+            number,
+            image,
+            written,
+            record,
+        }
+    }
 }
 
 impl fmt::Display for Seen {
@@ -73,13 +93,24 @@ impl fmt::Display for Seen {
     }
 }
 
+// Stands where there is no number to tell.
+const UNTOLD: u64 = 999;
+
+// A charge as a number, where it is one of those that a key call has.
+fn amount(charge: Money) -> u64 {
+    u64::try_from(charge.0)
+        .ok()
+        .filter(|c| [0, 13, 70, 90, 100].contains(c))
+        .unwrap_or(UNTOLD)
+}
+
 // What is seen of an answer, with no byte changed.
-fn answered(receipt: Receipt, key: u32, number: u32, record: u8) -> Seen {
+fn answered(receipt: Receipt, key: u32, number: u32, record: u64) -> Seen {
     Seen {
-        report: u8::from(receipt.report),
-        charge: receipt.charge.0,
-        key,
-        number,
+        report: u64::from(u8::from(receipt.report)),
+        charge: amount(receipt.charge),
+        key: u64::from(key),
+        number: u64::from(number),
         image: 0,
         written: 0,
         record,
@@ -91,7 +122,7 @@ fn is_same(a: Walk, b: Walk) -> bool {
 }
 
 // The record of a walk after a step that answered a key: 0 as it was, 1 moved to the key, 2 anything else.
-pub(crate) fn record_of(before: Walk, after: Walk, key: u32) -> u8 {
+pub(crate) fn record_of(before: Walk, after: Walk, key: u32) -> u64 {
     let moved = Walk {
         key,
         ended: key == END_KEY,
@@ -108,7 +139,7 @@ pub(crate) fn record_of(before: Walk, after: Walk, key: u32) -> u8 {
 
 impl Call {
     // Runs it on what it is lent, of which it is not seen here whether bytes change.
-    pub(crate) fn run(self, buffer: &mut [u8], img: &mut [u8]) -> Seen {
+    fn run(self, buffer: &mut [u8], img: &mut [u8]) -> Seen {
         let client = User(self.client);
         let key = self.key;
         match self.operation {
@@ -136,5 +167,14 @@ impl Call {
                 answered(a.receipt, a.key, a.entries, record_of(before, walk, a.key))
             }
         }
+    }
+
+    // What is seen of it where it is lent the first bytes of a buffer and of an image; it is not made where there are
+    // fewer of them.
+    pub(crate) fn lent(self, buffer: &mut [u8], img: &mut [u8]) -> Seen {
+        if buffer.len() < self.buffer || img.len() < self.image {
+            return Seen::from([UNTOLD; 7]);
+        }
+        self.run(&mut buffer[..self.buffer], &mut img[..self.image])
     }
 }

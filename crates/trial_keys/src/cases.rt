@@ -1,7 +1,6 @@
-// A line of the case file as what it asks for.
-use crate::calls::{Call, Operation, Seen};
+// A line of the case file as what it asks for: its first byte says what, and its numbers, by their places, say of what.
+use crate::calls::{Call, Operation, Seen, low};
 use crate::walks::{Asked, Walked};
-use std::str::{FromStr, SplitWhitespace};
 
 pub(crate) enum Case {
     // A call, and what is expected of it.
@@ -16,93 +15,72 @@ pub(crate) enum Case {
     Text,
 }
 
-// A word as a number, 0 where it is none.
-fn parsed<T: FromStr + Default + Drop>(word: Option<&str>) -> T
-where
-    T::Err: Drop,
-{
-    word.and_then(|word| word.parse().ok()).unwrap_or_default()
+// A number with one more digit; of a long one the last sixteen.
+fn longer(x: u64, digit: u8) -> u64 {
+    (x % 1_000_000_000_000_000) * 10 + u64::from(digit.wrapping_sub(b'0'))
 }
 
-// The number that follows a word of a line.
-fn number<T: FromStr + Default + Drop>(line: &str, name: &str) -> T
-where
-    T::Err: Drop,
-{
-    parsed(
-        line.split_whitespace()
-            .skip_while(|word| *word != name)
-            .nth(1),
-    )
+// The numbers of a line are its runs of digits, in order; zeros follow the last.
+fn numbers(line: &[u8]) -> [u64; 12] {
+    let mut out = [0; 12];
+    let runs = line
+        .split(|byte| !byte.is_ascii_digit())
+        .filter(|run| !run.is_empty());
+    for (place, run) in out.iter_mut().zip(runs) {
+        *place = run.iter().fold(0, |x, digit| longer(x, *digit));
+    }
+    out
 }
 
-fn call(line: &str, operation: Operation, mut expected: SplitWhitespace) -> Case {
+// What is expected: the seven numbers that follow the first five.
+fn expected(n: [u64; 12]) -> [u64; 7] {
+    let [_, _, _, _, _, a, b, c, d, e, f, g] = n;
+    [a, b, c, d, e, f, g]
+}
+
+fn call(operation: Operation, n: [u64; 12]) -> Case {
     let call = Call {
         operation,
-        client: number(line, "client"),
-        key: number(line, "key"),
-        buffer: number(line, "buffer"),
-        image: number(line, "image"),
+        client: low(n[0]),
+        key: low(n[1]),
+        buffer: n[3] as usize,
+        image: n[4] as usize,
     };
-    let seen = Seen {
-        report: parsed(expected.next()),
-        charge: parsed(expected.next()),
-        key: parsed(expected.next()),
-        number: parsed(expected.next()),
-        image: parsed(expected.next()),
-        written: parsed(expected.next()),
-        record: parsed(expected.next()),
-    };
-    Case::Call(call, seen)
+    Case::Call(call, Seen::from(expected(n)))
 }
 
-fn walk(line: &str, mut expected: SplitWhitespace) -> Case {
+fn walk(n: [u64; 12]) -> Case {
     let asked = Asked {
-        n: number(line, "N"),
-        count: number(line, "count"),
-        changes: number(line, "changes"),
-        blocks: number(line, "blocks"),
-        seed: number(line, "seed"),
+        n: n[0] as usize,
+        count: low(n[1]),
+        changes: n[2],
+        blocks: n[3],
+        seed: n[4],
     };
-    let walked = Walked {
-        ended: parsed(expected.next()),
-        missed: parsed(expected.next()),
-        twice: parsed(expected.next()),
-        strange: parsed(expected.next()),
-        falling: parsed(expected.next()),
-        refused: parsed(expected.next()),
-        unlike: parsed(expected.next()),
-    };
-    Case::Walk(asked, walked)
+    Case::Walk(asked, Walked::from(expected(n)))
 }
 
 impl Case {
-    pub(crate) fn of(line: &str) -> Case {
-        let (asked, expected) = line.split_once('|').unwrap_or((line, ""));
-        let expected = expected.split_whitespace();
-        let count = number(asked, "count");
-        match asked.split_whitespace().next() {
-            Some("GetIds") => call(asked, Operation::GetIds { count }, expected),
-            Some("Scavenge") => {
-                let now = number(asked, "now");
-                call(asked, Operation::Scavenge { now }, expected)
+    // None for an empty line.
+    pub(crate) fn of(line: &[u8]) -> Option<Case> {
+        let letter = *line.first()?;
+        let n = numbers(line);
+        let count = low(n[2]);
+        Some(match letter {
+            b'G' => call(Operation::GetIds { count }, n),
+            b'S' => call(Operation::Scavenge { now: n[2] }, n),
+            b'P' => call(Operation::Profile, n),
+            b'N' | b'E' => {
+                let ended = letter == b'E';
+                call(Operation::Step { count, ended }, n)
             }
-            Some("Profile") => call(asked, Operation::Profile, expected),
-            Some("Next") => {
-                let ended = false;
-                call(asked, Operation::Step { count, ended }, expected)
-            }
-            Some("Ended") => {
-                let ended = true;
-                call(asked, Operation::Step { count, ended }, expected)
-            }
-            Some("Walk") => walk(asked, expected),
-            Some("Byte") => Case::Byte {
-                at: number(asked, "Byte"),
-                v: number(asked, "made"),
+            b'W' => walk(n),
+            b'B' => Case::Byte {
+                at: n[0] as usize,
+                v: (n[1] % 256) as u8,
             },
-            Some("Keep") => Case::Keep,
+            b'K' => Case::Keep,
             _ => Case::Text,
-        }
+        })
     }
 }

@@ -1,14 +1,18 @@
-// The trial: a store, the last call's copy of it, and the rows so far. A row is a line of the case file, which says
-// what runs and what is expected; then what is seen.
+// The trial: a store, the room for images, and the rows so far. A row is a line of the case file, which says what runs
+// and what is expected; then what is seen.
 use crate::calls::{Call, PRICES, Seen};
 use crate::cases::Case;
-use crate::walks::Walking;
+use crate::walks::{Asked, Walked, Walking};
 use kinds::{Tick, User};
 use std::alloc::{AllocError, Global};
+use std::io::Write;
 use std::{fmt, io};
 
 // The size of an image of 72 blocks.
 const STORE: usize = 43008;
+
+// The size of an image of 4,096 blocks.
+const ROOM: usize = 2360832;
 
 // Room for the largest buffer that is lent, and what each byte is before a call.
 const BUFFER: usize = 1600;
@@ -20,7 +24,9 @@ pub(crate) struct Trial<'a, R: Print> {
     rt: &'a R,
     alloc: Global,
     store: Vec<u8>,
-    copy: Vec<u8>,
+    // Begins with the last call's copy of the store, or the last walk's store. It is never cleared: a call that is lent
+    // more than the store has, or a walk whose store is not made, finds what stands there.
+    room: Vec<u8>,
     rows: u32,
     differ: u32,
 }
@@ -43,13 +49,20 @@ fn make_store(alloc: Global) -> Result<Vec<u8>, AllocError> {
     Ok(img)
 }
 
+// Copies as many bytes as both have.
+fn copy(to: &mut [u8], from: &[u8]) {
+    for (to, from) in to.iter_mut().zip(from) {
+        *to = *from;
+    }
+}
+
 impl<'a, R: Print> Trial<'a, R> {
     pub(crate) fn new(rt: &'a R, alloc: Global) -> Result<Self, AllocError> {
         Ok(Trial {
             rt,
             alloc,
             store: make_store(alloc)?,
-            copy: Vec::new(alloc),
+            room: vec![in alloc; 0; ROOM]?,
             rows: 0,
             differ: 0,
         })
@@ -60,50 +73,65 @@ impl<'a, R: Print> Trial<'a, R> {
         let right = expected == seen;
         let mark = if right { "" } else { " DIFFERS" };
         println!(self.rt; " | {seen}{mark}")?;
-        self.rows = self.rows.saturating_add(1);
+        self.rows = self.rows.wrapping_add(1);
         if !right {
-            self.differ = self.differ.saturating_add(1);
+            self.differ = self.differ.wrapping_add(1);
         }
         Ok(())
     }
 
     // What is seen of a call on a copy of the store.
-    fn call(&mut self, call: Call) -> Result<Seen, AllocError> {
+    fn call(&mut self, call: Call) -> Seen {
         let mut buffer = [UNWRITTEN; BUFFER];
-        let mut copy = self.store.clone()?;
-        let size = call.image.min(copy.len());
-        let mut seen = call.run(&mut buffer[..call.buffer.min(BUFFER)], &mut copy[..size]);
-        seen.image = u8::from(copy != self.store);
+        copy(&mut self.room, &self.store);
+        let mut seen = call.lent(&mut buffer, &mut self.room);
+        seen.image = u64::from(!self.room.starts_with(&self.store));
         let last = buffer.iter().rposition(|byte| *byte != UNWRITTEN);
-        seen.written = last.map_or(0, |last| last + 1);
-        self.copy = copy;
-        Ok(seen)
+        seen.written = last.map_or(0, |last| last as u64 + 1);
+        seen
     }
 
-    pub(crate) fn line(&mut self, line: &str) -> io::Result<()> {
-        print!(self.rt; "{line}")?;
+    // What is seen of a walk; what is told beside it is written.
+    fn walk(&mut self, asked: Asked) -> io::Result<Walked> {
+        let walking = Walking::through(self.alloc, &mut self.room, asked)?;
+        print!(self.rt; " {walking}")?;
+        Ok(walking.walked)
+    }
+
+    fn line(&mut self, line: &[u8]) -> io::Result<()> {
+        io::writer(self.rt).write_all(line)?;
         match Case::of(line) {
-            Case::Call(call, expected) => {
-                let seen = self.call(call)?;
+            None => Ok(()),
+            Some(Case::Call(call, expected)) => {
+                let seen = self.call(call);
                 self.compare(&expected, &seen)
             }
-            Case::Walk(asked, expected) => {
-                let walking = Walking::through(self.alloc, asked)?;
-                print!(self.rt; " {walking}")?;
-                self.compare(&expected, &walking.walked)
+            Some(Case::Walk(asked, expected)) => {
+                let seen = self.walk(asked)?;
+                self.compare(&expected, &seen)
             }
-            Case::Byte { at, v } => {
+            Some(Case::Byte { at, v }) => {
                 if let Some(byte) = self.store.get_mut(at) {
                     *byte = v;
                 }
                 println!(self.rt)
             }
-            Case::Keep => {
-                self.store = self.copy.clone()?;
+            Some(Case::Keep) => {
+                copy(&mut self.store, &self.room);
                 println!(self.rt)
             }
-            Case::Text => println!(self.rt),
+            Some(Case::Text) => println!(self.rt),
         }
+    }
+
+    // The lines of a case file, of which each ends with a newline.
+    pub(crate) fn lines(&mut self, cases: &[u8]) -> io::Result<()> {
+        for line in cases.split_inclusive(|byte| *byte == b'\n') {
+            if let Some(line) = line.strip_suffix(b"\n") {
+                self.line(line)?;
+            }
+        }
+        Ok(())
     }
 
     // The last line.
