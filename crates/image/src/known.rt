@@ -15,7 +15,8 @@ pub struct Image<'a> {
 }
 
 impl Image<'_> {
-    // Whether the header of a block is good.
+    // Whether the header of a block is good. The walks call it once for each block.
+    #[inline]
     #[tactic(auto, unfolding(promise::specs::Map::good))]
     pub fn is_good(self, b: BlockNum) -> bool
         requires { b.0 < self.n }
