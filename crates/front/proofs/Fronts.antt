@@ -15,7 +15,7 @@ use Rattle.kinds.specs.declared.Money.{Money}
 use Rattle.kinds.specs.declared.Receipt.{Receipt}
 use Rattle.kinds.specs.declared.Report.{Report}
 use Rattle.kinds.specs.declared.Report.TheVariants.{Success, BadImage, BadUser, BadTime, ClockNotLater}
-use Rattle.promise.specs.Trailer.{n_of, clock_of, trailer_right}
+use Rattle.promise.specs.Trailer.{clock_of, trailer_right}
 use Rattle.promise.specs.Refusals.{Row, lowest, succeeds, bad_now, bad_expiry, receipt}
 use Rattle.promise.proofs.RefusalLaws.{rising}
 use Rattle.promise.proofs.RowLaws.{stopped, clear, passed, now_fits, expiry_fits, is_later, is_client}

@@ -17,7 +17,6 @@ use Rattle.run.proofs.Turns.{row-yes, row-no}
 use Rattle.kinds.specs.declared.GetIdsAnswer.{GetIdsAnswer}
 use Rattle.kinds.specs.declared.Report.{Report}
 use Rattle.kinds.specs.declared.Report.TheVariants.{Success, Damaged}
-use Rattle.kinds.specs.declared.Tick.{Tick}
 use Rattle.tariff.specs.Charges.{get_ids_charge}
 use Rattle.tariff.specs.declared.Tariff.{Tariff}
 use Rattle.promise.specs.Trailer.{n_of, clock_of, trailer_right}

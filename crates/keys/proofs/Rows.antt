@@ -3,11 +3,10 @@
 -- Assumes nothing.
 use Prim.Native.Nat.{ℕ}
 use mathlib.Core.Path.{◌≡◌, sym, ◌∙◌}
-use mathlib.Core.Bool.{true, false}
+use mathlib.Core.Bool.{true}
 use mathlib.Core.List.{List, ◌++◌}
 use native.Mathlib.Omega.{arith}
-use Rattle.std.specs.Prelude.{Result, Ok, Err, IsErrAnd}
-use Rattle.plain.specs.Tests.{was_first, was_second, apart}
+use Rattle.std.specs.Prelude.{Ok, Err}
 use Rattle.kinds.specs.declared.Report.{Report}
 use Rattle.promise.specs.Refusals.{Row, lowest, succeeds}
 use Rattle.promise.proofs.RefusalLaws.{rising}

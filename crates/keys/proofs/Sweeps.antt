@@ -17,7 +17,6 @@ use Rattle.run.proofs.Tally.{picked_same, times-picked}
 use Rattle.kinds.specs.declared.ScavengeAnswer.{ScavengeAnswer}
 use Rattle.kinds.specs.declared.Report.{Report}
 use Rattle.kinds.specs.declared.Report.TheVariants.{Success, Damaged}
-use Rattle.kinds.specs.declared.Tick.{Tick}
 use Rattle.tariff.specs.Charges.{scavenge_charge}
 use Rattle.tariff.specs.declared.Tariff.{Tariff}
 use Rattle.promise.specs.Trailer.{n_of, clock_of, trailer_right, clock_set}

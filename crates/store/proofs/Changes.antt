@@ -14,7 +14,6 @@ use Rattle.plain.specs.Tests.{when, apart}
 use Rattle.word.specs.Word.{bytes_of}
 use Rattle.word.specs.Write.{puts}
 use Rattle.kinds.specs.Kinds.{ident}
-use Rattle.kinds.specs.declared.BlockNum.{BlockNum}
 use Rattle.kinds.specs.declared.Id.{Id}
 use Rattle.kinds.specs.declared.Receipt.{Receipt}
 use Rattle.kinds.specs.declared.Report.{Report}
@@ -43,7 +42,7 @@ use Rattle.image.specs.Image.{Laid}
 use Rattle.image.proofs.Checks.{known}
 use Rattle.front.specs.Rows.{time_rows, answered}
 use Rattle.promise.proofs.RowLaws.{clear, stopped, passed, same_rest}
-use Rattle.front.proofs.Fronts.{told_err, told_ok, err_more, ok_more, is_admitted, is_timely, no_expiry}
+use Rattle.front.proofs.Fronts.{told_err, told_ok, err_more, is_admitted, is_timely, no_expiry}
 use Rattle.front.specs.Rows.{bad_times, reading_rows, changing_rows}
 use Rattle.store.specs.Store.{find_rows, own_rows, found, left_of, block_writes}
 use Rattle.store.specs.declared.lookup.Found.{Found}

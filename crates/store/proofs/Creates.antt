@@ -12,9 +12,9 @@ use borrow.Author.Tests.{lt-ltb, le-ltb, le-leb, lt-leb, leb-false, not-false, e
 use lib.Dec.{eqb, leb, ltb}
 use lib.ListN.{length}
 use Rattle.plain.specs.Numbers.{lt_or_le}
-use Rattle.plain.specs.Tests.{when, apart}
+use Rattle.plain.specs.Tests.{apart}
 use Rattle.word.specs.Write.{puts}
-use Rattle.kinds.specs.Kinds.{ident, block_num}
+use Rattle.kinds.specs.Kinds.{ident}
 use Rattle.kinds.specs.declared.BlockNum.{BlockNum}
 use Rattle.kinds.specs.declared.Id.{Id}
 use Rattle.kinds.specs.declared.Receipt.{Receipt}
@@ -24,14 +24,12 @@ use Rattle.kinds.specs.declared.Report.TheVariants.{Damaged, NoSpace}
 use Rattle.ident.specs.Ident.{null_id, id_of}
 use Rattle.tariff.specs.Charges.{create_charge}
 use Rattle.tariff.specs.declared.Tariff.{Tariff}
-use Rattle.run.specs.Run.{first}
 use Rattle.run.proofs.Laws.{first_passes}
 use Rattle.promise.specs.Trailer.{n_of, clock_of}
 use Rattle.promise.specs.Header.{later_of}
 use Rattle.promise.specs.Map.{free, good}
 use Rattle.promise.specs.Counts.{count_of}
 use Rattle.promise.specs.Refusals.{Row, row, lowest, succeeds, bad_image, bad_user, not_later, receipt, refusal}
-use Rattle.promise.proofs.RefusalLaws.{rising}
 use Rattle.promise.specs.Create.{CreatePromise, create_answer, create_image, create_report, create_rows, create_writes}
 use Rattle.promise.specs.Create.{create_damaged, lowest_free, no_space}
 use Rattle.image.specs.Image.{Laid, Known}
@@ -40,9 +38,9 @@ use Rattle.image.proofs.Lowest.{told_none, told_some}
 use Rattle.image.specs.Image.{trailer_in, lowest_from}
 use Rattle.image.specs.declared.trailer.Trailer.{Trailer}
 use Rattle.front.specs.Rows.{bad_times, reading_rows, time_rows, changing_rows, front_of, answered}
-use Rattle.promise.proofs.RowLaws.{clear, passed, same_rest}
+use Rattle.promise.proofs.RowLaws.{clear, same_rest}
 use Rattle.front.proofs.Fronts.{told_err, told_ok, err_more, ok_more, is_admitted, is_timely, changing_rising}
-use Rattle.front.proofs.Fronts.{changing_known, changing_client}
+use Rattle.front.proofs.Fronts.{changing_known}
 use Rattle.store.specs.Store.{fill_writes}
 use Rattle.store.specs.Places.{place_for}
 use Rattle.store.specs.declared.create.Place.{Place}

@@ -5,7 +5,7 @@ use mathlib.Core.Path.{◌≡◌, refl, sym, ap, ◌∙◌}
 use mathlib.Core.Bool.{Bool, true, false, not, ◌&&◌, true≢false}
 use mathlib.Core.List.{List, [], ◌∷◌, ◌++◌, append-nil}
 use native.Mathlib.Omega.{arith}
-use borrow.Author.Tests.{eq-eqb, ne_eqb, not-false, not-true}
+use borrow.Author.Tests.{not-false, not-true}
 use lib.Dec.{eqb}
 use lib.ListN.{length}
 use Rattle.std.specs.Prelude.{Result, Ok, Err, Some, None}
@@ -28,9 +28,9 @@ use Rattle.promise.proofs.RefusalLaws.{rising}
 use Rattle.promise.proofs.RowLaws.{clear}
 use Rattle.image.specs.Image.{Known, trailer_in}
 use Rattle.image.specs.declared.trailer.Trailer.{Trailer}
-use Rattle.front.specs.Rows.{reading_rows, time_rows, changing_rows, front_of, answered}
-use Rattle.front.proofs.Fronts.{told_ok, err_more, ok_more, ok_err, reading_rising, changing_rising, reading_known}
-use Rattle.front.proofs.Fronts.{changing_known, is_admitted}
+use Rattle.front.specs.Rows.{reading_rows, changing_rows, front_of, answered}
+use Rattle.front.proofs.Fronts.{told_ok, err_more, ok_more, ok_err, reading_rising, changing_rising}
+use Rattle.front.proofs.Fronts.{changing_known}
 use Rattle.store.specs.Store.{find_rows, own_rows, found}
 use Rattle.store.specs.declared.lookup.Found.{Found}
 

@@ -3,7 +3,7 @@
 use Prim.Native.Nat.{ℕ, ◌+◌, ◌*◌, ◌≤◌, ◌<◌}
 use mathlib.Core.Path.{◌≡◌, refl, sym, ap, ◌∙◌}
 use mathlib.Core.Bool.{Bool, true}
-use mathlib.Core.List.{List, [], ◌∷◌, ◌++◌, append-nil}
+use mathlib.Core.List.{List, [], ◌∷◌, append-nil}
 use native.Mathlib.Omega.{arith}
 use borrow.Author.Tests.{lt-ltb, le-ltb}
 use lib.Dec.{eqb}
@@ -26,7 +26,7 @@ use Rattle.promise.specs.GetCount.{GetCountPromise, get_count_answer, get_count_
 use Rattle.promise.specs.GetCount.{get_count_damaged}
 use Rattle.promise.specs.Status.{StatusPromise, status_answer, status_report, status_rows}
 use Rattle.promise.specs.Read.{ReadPromise, read_answer, read_buffer, read_report, read_rows}
-use Rattle.image.specs.Image.{Laid, Known, trailer_in}
+use Rattle.image.specs.Image.{Laid, trailer_in}
 use Rattle.image.specs.declared.trailer.Trailer.{Trailer}
 use Rattle.image.proofs.Checks.{known}
 use Rattle.front.specs.Rows.{reading_rows, front_of, answered}

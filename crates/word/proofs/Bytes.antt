@@ -1,7 +1,7 @@
 -- What the library reads from bytes and writes to them, in the words of Word.antt and Write.antt: a number from its bytes
 -- in a row, a part that is lent and written to, and the zero test.
 -- Assumes nothing.
-use Prim.Native.Nat.{ℕ, zero, suc, ◌+◌, ◌*◌, ◌-◌, ◌/◌, ◌^◌, ◌≤◌, ◌<◌}
+use Prim.Native.Nat.{ℕ, zero, suc, ◌+◌, ◌*◌, ◌/◌, ◌≤◌, ◌<◌}
 use mathlib.Core.Path.{◌≡◌, refl, sym, ap, ◌∙◌}
 use mathlib.Core.Bool.{Bool, ◌&&◌, and_assoc, and-true}
 use mathlib.Core.List.{List, [], ◌∷◌, ◌++◌, append_assoc}
@@ -20,7 +20,7 @@ use Rattle.std.specs.Simd.{first_chunks}
 use Rattle.std.proofs.lemmas.Nat.{le_bytes_4, le_bytes_8}
 use Rattle.word.specs.Word.{part, le, word_at, bytes_of, all_zero, Spelled}
 use Rattle.word.specs.Write.{over}
-use Rattle.word.proofs.Laws.{length_part, length-bytes_of, bytes-bytes_of, le-bytes_of, part_split}
+use Rattle.word.proofs.Laws.{length-bytes_of, bytes-bytes_of, le-bytes_of, part_split}
 
 -- ---- a part, from its first byte on
 

@@ -1,5 +1,5 @@
 -- `image::sound::visit_all` meets its contract. The invariant: the headers so far are good, and the tally is theirs.
-use Rattle.std.proofs.Common.{◌≡◌, ℕ, ◌*◌, true, length, get_or}
+use Rattle.std.proofs.Common.{◌≡◌, ℕ, ◌*◌, true, get_or}
 use Rattle.run.specs.Run.{all_of, times}
 use Rattle.promise.specs.Map.{good}
 use Rattle.image.specs.Image.{owners_from}

@@ -1,7 +1,7 @@
 -- `keys::scavenge::mark_all` meets its contract. The invariant: the marks made so far are right, and the tally with
 -- those that are left is that of all.
 use Prim.Native.Nat.{◌+◌}
-use mathlib.Core.Path.{refl, ap, ◌∙◌}
+use mathlib.Core.Path.{ap, ◌∙◌}
 use native.Mathlib.Omega.{arith}
 use borrow.Author.Rules.{rules}
 use lib.ListN.{length, length-set}

@@ -1,5 +1,5 @@
 -- `keys::scavenge::scavenge` meets its contract: its tests, and then the stores.
-use mathlib.Core.Path.{refl, sym, ◌∙◌}
+use mathlib.Core.Path.{sym, ◌∙◌}
 use native.Mathlib.Omega.{arith}
 use Rattle.image.proofs.Checks.{zeros}
 use Rattle.keys.proofs.Sweeps.{refuses, room_for, sweeps}
