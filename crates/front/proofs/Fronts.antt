@@ -109,7 +109,8 @@ reading_known img client t e =
 pub reading_client : (img : List ℕ) (client : ℕ) (t : Trailer)
     → front_of (lowest (reading_rows img client)) img ≡ Ok t → client < 64
 reading_client img client t e =
-    (is_admitted img client [] (rw append-nil (told_ok (lowest (reading_rows img client)) (trailer_in img) t e).0)).0.user
+    (is_admitted img client []
+    (rw append-nil (told_ok (lowest (reading_rows img client)) (trailer_in img) t e).0)).0.user
 
 -- ---- the times
 

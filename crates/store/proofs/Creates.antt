@@ -119,7 +119,8 @@ module _ (img : List ℕ) (client expiry : ℕ) (bytes : List ℕ) (time : ℕ) 
   module _ (t : Trailer) (e : front_of (lowest (changing_rows img client expiry time)) img ≡ Ok t) where
     by_rest : answered (lowest rest) (place_for img client) ≡ create_tested
     by_rest = ok_more (changing_rows img client expiry time) rest (trailer_in img) (place_for img client)
-        (changing_rising img client expiry time) t e ∙ sym (ap (λ r. answered r (place_for img client)) create_report_lem)
+        (changing_rising img client expiry time) t e
+        ∙ sym (ap (λ r. answered r (place_for img client)) create_report_lem)
 
     pub opened : Known img t.n t.clock.0
     opened = changing_known img client expiry time t e
@@ -150,7 +151,8 @@ module _ (img : List ℕ) (client expiry : ℕ) (bytes : List ℕ) (time : ℕ) 
 
         pub bad_header : good img b.0 ≡ false → create_tested ≡ Err Damaged
         unfolding answered lowest
-        bad_header g = sym by_rest ∙ rw (eq-eqb (length bytes) 528 q, its_b, opened.its_n, lt-ltb b.0 t.n place_below, g)
+        bad_header g =
+            sym by_rest ∙ rw (eq-eqb (length bytes) 528 q, its_b, opened.its_n, lt-ltb b.0 t.n place_below, g)
 
         module _ (g : good img b.0 ≡ true) (count : ℕ) (c : count ≡ count_of t.n img client) where
           pub bad_count : t.n ≤ count → create_tested ≡ Err Damaged

@@ -138,7 +138,8 @@ module _ (img : List ℕ) (client id : ℕ) (room : Bool) where
   seek_answer = answered (lowest (seek_rows img client id room)) (found img (leads_to id))
 
   pub not_read : (r : Report) → front_of (lowest (reading_rows img client)) img ≡ Err r → seek_answer ≡ Err r
-  not_read r e = err_more (reading_rows img client) (find_rows img id room) (trailer_in img) (found img (leads_to id)) r e
+  not_read r e =
+      err_more (reading_rows img client) (find_rows img id room) (trailer_in img) (found img (leads_to id)) r e
 
   module _ (t : Trailer) (e : front_of (lowest (reading_rows img client)) img ≡ Ok t) where
     pub not_found : (r : Report) → find_answer img id room ≡ Err r → seek_answer ≡ Err r

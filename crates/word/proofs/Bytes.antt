@@ -1,5 +1,5 @@
--- What the library reads from bytes and writes to them, in the words of Word.antt and Write.antt: a number from its bytes
--- in a row, a part that is lent and written to, and the zero test.
+-- What the library reads from bytes and writes to them, in the words of Word.antt and Write.antt: a number from its
+-- bytes in a row, a part that is lent and written to, and the zero test.
 -- Assumes nothing.
 use Prim.Native.Nat.{ℕ, zero, suc, ◌+◌, ◌*◌, ◌/◌, ◌≤◌, ◌<◌}
 use mathlib.Core.Path.{◌≡◌, refl, sym, ap, ◌∙◌}

@@ -11,7 +11,8 @@ pub returns-then-bit : goal.returns-then-bit
 returns-then-bit c =
     let z = c.is_zero.ensures ∙ ap all_zero c.of-h.ensures in
     record {
-      answer = z ∙ good_is_zero c.args.image.bytes.now _ _ c.args.b.0 c.args.image.known (sym c.requires.1 ∙ c.if-bit.true);
+      answer = z ∙ good_is_zero c.args.image.bytes.now _ _ c.args.b.0 c.args.image.known
+          (sym c.requires.1 ∙ c.if-bit.true);
       tally = free_tally _ _ _ z;
     }
 

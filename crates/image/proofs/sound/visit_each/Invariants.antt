@@ -10,4 +10,5 @@ abbrev pub invariant-loop-j : goal.invariant-loop-j
 invariant-loop-j l =
     (length l.tally ≡ 64)
     × (all_of (good l.image.bytes.now) (8 * l.i) l.j ≡ true)
-    × ((u : ℕ) → get_or l.tally u 0 ≡ get_or l.initial.tally u 0 + times u (owners_from l.image.bytes.now (8 * l.i) l.j))
+    × ((u : ℕ) → get_or l.tally u 0
+    ≡ get_or l.initial.tally u 0 + times u (owners_from l.image.bytes.now (8 * l.i) l.j))

@@ -11,5 +11,6 @@ abbrev pub invariant-loop-b : goal.invariant-loop-b
 invariant-loop-b l =
     (l.b - l.from + visits (owned_by l.image.bytes.now l.client.0) (l.from + l.most - l.b) l.wanted l.b
     ≡ visits (owned_by l.image.bytes.now l.client.0) l.most l.count l.from)
-    × (all_of (good l.image.bytes.now) l.b (visits (owned_by l.image.bytes.now l.client.0) (l.from + l.most - l.b) l.wanted l.b)
+    × (all_of (good l.image.bytes.now) l.b
+    (visits (owned_by l.image.bytes.now l.client.0) (l.from + l.most - l.b) l.wanted l.b)
     ≡ all_of (good l.image.bytes.now) l.from (visits (owned_by l.image.bytes.now l.client.0) l.most l.count l.from))

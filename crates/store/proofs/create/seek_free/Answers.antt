@@ -1,7 +1,8 @@
 -- `store::create::seek_free` meets its contract.
 use Rattle.std.proofs.Common.{sym, ◌∙◌}
 use Rattle.front.proofs.Fronts.{exit, changing_known, changing_client}
-use Rattle.store.proofs.Creates.{not_opened, bad_room, no_place, free_told, place_below, bad_header, bad_count, has_place}
+use Rattle.store.proofs.Creates.{not_opened, bad_room, no_place, free_told, place_below, bad_header, bad_count}
+use Rattle.store.proofs.Creates.{has_place}
 use Rattle.store.proofs.create.seek_free.Goals as goal
 
 pub returns-in_err-n : goal.returns-in_err-n
@@ -32,7 +33,8 @@ invariant_of-image c = record { known = changing_known _ _ _ _ _ (sym c.changing
 pub returns-then-not-is_good : goal.returns-then-not-is_good
 returns-then-not-is_good c = sym
     (bad_header _ _ _ _ _ _ (sym c.changing.ensures ∙ c.in_ok-n.was) c.if-bytes-ne-SERVICE_BLOCK.false
-    _ (free_told _ _ _ c.lowest_free.ensures (sym c.ok_or.ensures.value ∙ c.in_ok-b.was)) (sym c.is_good.ensures ∙ c.if-not-is_good.true))
+    _ (free_told _ _ _ c.lowest_free.ensures (sym c.ok_or.ensures.value ∙ c.in_ok-b.was))
+    (sym c.is_good.ensures ∙ c.if-not-is_good.true))
 
 pub count_of-count-requires : goal.count_of-count-requires
 count_of-count-requires c =
@@ -42,11 +44,13 @@ count_of-count-requires c =
 pub returns-then-n-count : goal.returns-then-n-count
 returns-then-n-count c = sym
     (bad_count _ _ _ _ _ _ (sym c.changing.ensures ∙ c.in_ok-n.was) c.if-bytes-ne-SERVICE_BLOCK.false
-    _ (free_told _ _ _ c.lowest_free.ensures (sym c.ok_or.ensures.value ∙ c.in_ok-b.was)) (sym c.is_good.ensures ∙ c.if-not-is_good.false)
+    _ (free_told _ _ _ c.lowest_free.ensures (sym c.ok_or.ensures.value ∙ c.in_ok-b.was))
+    (sym c.is_good.ensures ∙ c.if-not-is_good.false)
     _ c.count_of-count.ensures c.if-n-count.true)
 
 pub returns : goal.returns
 returns c = sym
     (has_place _ _ _ _ _ _ (sym c.changing.ensures ∙ c.in_ok-n.was) c.if-bytes-ne-SERVICE_BLOCK.false
-    _ (free_told _ _ _ c.lowest_free.ensures (sym c.ok_or.ensures.value ∙ c.in_ok-b.was)) (sym c.is_good.ensures ∙ c.if-not-is_good.false)
+    _ (free_told _ _ _ c.lowest_free.ensures (sym c.ok_or.ensures.value ∙ c.in_ok-b.was))
+    (sym c.is_good.ensures ∙ c.if-not-is_good.false)
     _ c.count_of-count.ensures c.if-n-count.false)
