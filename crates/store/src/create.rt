@@ -1,5 +1,5 @@
 // Create: the lowest free block becomes the client's.
-ghost use Rattle.std.specs.Prelude.{◌≡◌, true, ◌<◌, length};
+ghost use Rattle.std.specs.Prelude.{◌≡◌, ◌+◌, true, ◌<◌, length};
 ghost use Rattle.word.specs.Write.{puts};
 ghost use Rattle.promise.specs.Map.{free};
 ghost use Rattle.promise.specs.Refusals.{lowest};
@@ -9,6 +9,7 @@ ghost use Rattle.front.specs.Rows.{answered};
 ghost use Rattle.store.specs.Store.{fill_writes};
 ghost use Rattle.store.specs.Places.{place_for};
 
+use crate::block::Fresh;
 use crate::{block, later_of};
 use image::known::Image;
 use image::layout::SERVICE_BLOCK;
@@ -57,26 +58,17 @@ fn seek_free(
 }
 
 // The stores.
-fn fill(
-    img: &mut [u8],
-    n: usize,
-    b: BlockNum,
-    owner: User,
-    id: Id,
-    expires: Tick,
-    count: u64,
-    bytes: &[u8],
-    time: Tick,
-)
-    requires { Laid img.old n × (b.0 < n) × (free n img.old b.0 ≡ true) × (owner.0 < 64)
-        × (length bytes.now ≡ 528) }
+fn fill(img: &mut [u8], place: Place, fresh: Fresh)
+    requires { Laid img.old place.n × (place.b.0 < place.n) × (free place.n img.old place.b.0 ≡ true)
+        × (fresh.owner.0 < 64) × (length fresh.bytes.now ≡ 528) × (place.count < place.n) }
     ensures { img.new ≡ puts img.old
-        (fill_writes img.old n b.0 owner.0 id.0 expires.0 count bytes.now
-        time.0) }
+        (fill_writes img.old place.n place.b.0 fresh.entry.owner.0 fresh.entry.id.0
+        fresh.entry.expires.0 (place.count + 1) fresh.entry.bytes.now fresh.entry.time.0) }
 {
-    block::write(img, n, b, owner, id, expires, bytes, time);
+    let Place { n, b, count } = place;
+    block::write(img, n, b, fresh);
     map::take_bit(img, n, b);
-    counts::set_count(img, n, owner, count)
+    counts::set_count(img, n, fresh.owner, count + 1)
 }
 
 pub fn create(
@@ -95,10 +87,17 @@ pub fn create(
             receipt: front::refused(t, r),
             id: Id(0),
         },
-        Ok(Place { n, b, count }) => {
+        Ok(place) => {
             let expires = later_of(time, expiry);
-            let id = ident::make(time, b);
-            fill(img, n, b, client, id, expires, count + 1, bytes, time);
+            let id = ident::make(time, place.b);
+            let fresh = Fresh {
+                owner: client,
+                id,
+                time,
+                expires,
+                bytes,
+            };
+            fill(img, place, fresh);
             CreateAnswer {
                 receipt: front::done(tariff::create_charge(t, time, expires)),
                 id,

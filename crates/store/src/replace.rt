@@ -1,6 +1,7 @@
 // Replace: new bytes and a new id in the block's place, which keeps its number and its expires.
 ghost use Rattle.promise.specs.Replace.{ReplacePromise};
 
+use crate::block::Fresh;
 use crate::lookup::Found;
 use crate::{block, lookup};
 use image::header;
@@ -29,7 +30,14 @@ pub fn replace(
             let expires = h.expires();
             let charge = tariff::replace_charge(t, h.created(), expires, time, expires);
             let made = ident::make(time, b);
-            block::write(img, n, b, client, made, expires, bytes, time);
+            let fresh = Fresh {
+                owner: client,
+                id: made,
+                time,
+                expires,
+                bytes,
+            };
+            block::write(img, n, b, fresh);
             ReplaceAnswer {
                 receipt: front::done(charge),
                 id: made,

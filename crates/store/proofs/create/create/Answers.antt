@@ -13,17 +13,12 @@ make-id-requires c =
 pub fill-requires : goal.fill-requires
 fill-requires c =
     let h = free_block _ _ _ _ _ _ (sym c.seek_free.ensures ∙ c.in-Ok.is) in
-    (h.laid, h.below, h.bit, h.user, h.its_room)
+    (h.laid, h.below, h.bit, h.user, h.its_room, h.counted)
 
 pub create_charge-requires : goal.create_charge-requires
 create_charge-requires c =
     let h = free_block _ _ _ _ _ _ (sym c.seek_free.ensures ∙ c.in-Ok.is) in
     (h.time_fits, rw c.later_of-expires.ensures (later_fits _ _ h.time_fits h.expiry_fits))
-
-pub overflow_add-count : goal.overflow_add-count
-overflow_add-count c =
-    let h = free_block _ _ _ _ _ _ (sym c.seek_free.ensures ∙ c.in-Ok.is) in
-    omega (arith, h.counted, h.laid.number.most)
 
 pub returns-in-Err : goal.returns-in-Err
 returns-in-Err c = create_refused _ _ _ _ _ _ _ _ (sym c.seek_free.ensures ∙ c.in-Err.is) c.refused.ensures
