@@ -31,7 +31,7 @@ use Rattle.promise.specs.Scavenge.{scavenged, scavenge_image, scavenge_answer, S
 use Rattle.front.specs.Rows.{reading_rows, time_rows, changing_rows, front_of, answered}
 use Rattle.image.specs.declared.trailer.Trailer.{Trailer}
 use Rattle.front.proofs.Fronts.{told_err, told_ok, changing_rising, no_expiry}
-use Rattle.keys.specs.Marks.{loses, marked, has_count, freed, removed_by, Marks, Tallies}
+use Rattle.keys.specs.Marks.{loses, marked, has_count, freed, removed_by, Marks, Tallies, Lost}
 use Rattle.keys.specs.Asked.{manager_rows, span}
 use Rattle.keys.specs.declared.visit.Span.{Span}
 use Rattle.keys.proofs.Rows.{in_front, by-numbers, by-headers, Clear}
@@ -225,16 +225,15 @@ module _ (img : List ℕ) (client key time : ℕ) where
           h.0,
         )
 
-    pub room_for : (marks : List Bool) → Marks img time key (reach img key) marks
-        → (tally : List ℕ) → Tallies img time key (reach img key) tally
-        → Laid img s.n × (s.from + s.visited ≤ s.n) × (s.visited ≤ 64) × Marks img time s.from s.visited marks
-        × Tallies img time s.from s.visited tally
-    room_for marks f tally y =
+    pub room_for : (marks : List Bool) (tally : List ℕ) → Lost img time key (reach img key) marks tally
+        → Laid img s.n × (s.from + s.visited ≤ s.n) × (s.visited ≤ 64)
+        × Lost img time s.from s.visited marks tally
+    room_for marks tally lost =
         let k = its_laid.1 in
-        rw (← its_span) (its_laid.0, omega arith, omega arith, f, y)
+        rw (← its_span) (its_laid.0, omega arith, omega arith, lost)
 
-    pub sweeps : (t : Tariff) (marks : List Bool) → Marks img time key (reach img key) marks
-        → (tally : List ℕ) → Tallies img time key (reach img key) tally → Bytes img
+    pub sweeps : (t : Tariff) (marks : List Bool) (tally : List ℕ)
+        → Lost img time key (reach img key) marks tally → Bytes img
         → (a : ScavengeAnswer) (img' : List ℕ)
         → a ≡ record {
           receipt = receipt Success (scavenge_charge t);
@@ -244,7 +243,7 @@ module _ (img : List ℕ) (client key time : ℕ) where
         → img' ≡ removed_by s.n time marks tally s.from s.visited img
         → ScavengePromise t img client key time a img'
     unfolding scavenge_answer scavenge_image
-    sweeps t marks f tally y b a img' p q =
+    sweeps t marks tally (f, y) b a img' p q =
         let l = its_laid.0 in
         let g = well img key time its_laid.2 in
         let m = reach img key in

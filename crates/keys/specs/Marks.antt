@@ -64,3 +64,7 @@ removed_by n time marks tally from k img =
 -- the first k marks are those of the blocks from a number upward
 abbrev pub Marks : (img : List ℕ) (time from k : ℕ) (marks : List Bool) → Type 0
 Marks img time from k marks = (i : ℕ) → i < k → get_or marks i false ≡ expired img time (from + i)
+
+-- both
+abbrev pub Lost : (img : List ℕ) (time from k : ℕ) (marks : List Bool) (tally : List ℕ) → Type 0
+Lost img time from k marks tally = Marks img time from k marks × Tallies img time from k tally

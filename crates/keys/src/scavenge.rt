@@ -11,7 +11,7 @@ ghost use Rattle.promise.specs.Keys.{key_at, reach, visited_good};
 ghost use Rattle.promise.specs.Scavenge.{scavenge_damaged, scavenge_report, ScavengePromise};
 ghost use Rattle.image.specs.Image.{Laid};
 ghost use Rattle.keys.specs.Marks.{loser_of, marked, raised_by, has_count, freed, lowered, owes, lowered_by};
-ghost use Rattle.keys.specs.Marks.{removed_by, Marks, Tallies};
+ghost use Rattle.keys.specs.Marks.{removed_by, Lost};
 ghost use Rattle.front.specs.Rows.{answered};
 ghost use Rattle.keys.specs.Asked.{span};
 
@@ -23,6 +23,13 @@ use image::{counts, header, map, trailer};
 use kinds::limits::{CLIENTS, MOST_HEADERS};
 use kinds::{BlockNum, Report, ScavengeAnswer, Tick, User};
 use tariff::Tariff;
+
+// What is to go: a mark for each header visited, and how many blocks each client loses.
+#[derive(Drop)]
+struct Losses {
+    marks: [bool; MOST_HEADERS],
+    tally: [u32; CLIENTS],
+}
 
 // The client that loses a block: its owner, where it is expired.
 fn loser(img: &[u8], time: Tick, b: usize) -> Option<User>
@@ -47,23 +54,16 @@ fn tally_loss(who: Option<User>, tally: &mut [u32; CLIENTS])
 }
 
 // Marks the blocks visited, and counts those that each client loses.
-fn mark_all(
-    img: &[u8],
-    time: Tick,
-    span: Span,
-    marks: &mut [bool; MOST_HEADERS],
-    tally: &mut [u32; CLIENTS],
-)
+fn mark_all(img: &[u8], time: Tick, span: Span, losses: &mut Losses)
     requires { (header_at (span.from + span.visited) ≤ length img.now) × (span.visited ≤ 64)
-        × ((u : ℕ) → get_or tally.old u 0 ≡ 0) × (visited_good img.now span.from span.visited ≡ true) }
-    ensures marks { Marks img.now time.0 span.from span.visited marks.new }
-    ensures tally { Tallies img.now time.0 span.from span.visited tally.new }
+        × ((u : ℕ) → get_or losses.old.tally u 0 ≡ 0) × (visited_good img.now span.from span.visited ≡ true) }
+    ensures { Lost img.now time.0 span.from span.visited losses.new.marks losses.new.tally }
 {
     let Span { from, visited, .. } = span;
     for i in 0..visited {
         let who = loser(img, time, from + i);
-        marks[i] = who.is_some();
-        tally_loss(who, tally);
+        losses.marks[i] = who.is_some();
+        tally_loss(who, &mut losses.tally);
     }
 }
 
@@ -141,49 +141,35 @@ fn lower_counts(img: &mut [u8], n: usize, tally: &[u32; CLIENTS])
 }
 
 // Removes the blocks that are to go: the clock, their headers and bits from the lowest, the counts. Their number.
-fn remove(
-    img: &mut [u8],
-    span: Span,
-    time: Tick,
-    marks: &[bool; MOST_HEADERS],
-    tally: &[u32; CLIENTS],
-) -> usize
+fn remove(img: &mut [u8], span: Span, time: Tick, losses: &Losses) -> usize
     requires { Laid img.old span.n × (span.from + span.visited ≤ span.n) × (span.visited ≤ 64)
-        × Marks img.old time.0 span.from span.visited marks.now
-        × Tallies img.old time.0 span.from span.visited tally.now }
-    ensures gone { result ≡ length (picked (marked marks.now span.from) span.from span.visited) }
-    ensures image { img.new ≡ removed_by span.n time.0 marks.now
-        tally.now span.from span.visited
-        img.old }
+        × Lost img.old time.0 span.from span.visited losses.now.marks losses.now.tally }
+    ensures gone { result ≡ length (picked (marked losses.now.marks span.from) span.from span.visited) }
+    ensures image { img.new ≡ removed_by span.n time.0 losses.now.marks losses.now.tally
+        span.from span.visited img.old }
 {
     trailer::set_clock(img, span.n, time);
-    let count = free_blocks(img, span, marks);
+    let count = free_blocks(img, span, &losses.marks);
     if 0 < count {
-        lower_counts(img, span.n, tally);
+        lower_counts(img, span.n, &losses.tally);
     }
     count
 }
 
 // Whether all is well: the headers visited are good, and no count would fall below 0. Where it is, the blocks visited
 // are marked, and those that are to go are tallied by their owners.
-fn decide(
-    image: Image,
-    span: Span,
-    time: Tick,
-    marks: &mut [bool; MOST_HEADERS],
-    tally: &mut [u32; CLIENTS],
-) -> bool
+fn decide(image: Image, span: Span, time: Tick, losses: &mut Losses) -> bool
     requires { (span.from + span.visited ≤ image.n) × (span.visited ≡ Run.reach image.n span.from)
-        × ((u : ℕ) → get_or tally.old u 0 ≡ 0) }
+        × ((u : ℕ) → get_or losses.old.tally u 0 ≡ 0) }
     ensures answer { result ≡ not (scavenge_damaged image.entry.bytes.now span.from time.0) }
-    ensures marks { result ≡ true → Marks image.entry.bytes.now time.0 span.from span.visited marks.new }
-    ensures tally { result ≡ true → Tallies image.entry.bytes.now time.0 span.from span.visited tally.new }
+    ensures losses { result ≡ true
+        → Lost image.entry.bytes.now time.0 span.from span.visited losses.new.marks losses.new.tally }
 {
     if !visit::all_good(image, span.from, span.visited) {
         return false;
     }
-    mark_all(image.bytes, time, span, marks, tally);
-    has_counts(image.bytes, image.n, tally)
+    mark_all(image.bytes, time, span, losses);
+    has_counts(image.bytes, image.n, &losses.tally)
 }
 
 // All tests of Scavenge: what it visits, or the report that refuses it. Where they pass, the blocks visited are marked,
@@ -193,14 +179,13 @@ fn tried(
     key: u32,
     time: Tick,
     img: &[u8],
-    marks: &mut [bool; MOST_HEADERS],
-    tally: &mut [u32; CLIENTS],
+    losses: &mut Losses,
 ) -> Result<Span, Report>
-    requires { (u : ℕ) → get_or tally.old u 0 ≡ 0 }
+    requires { (u : ℕ) → get_or losses.old.tally u 0 ≡ 0 }
     ensures report { result ≡ answered (scavenge_report img.now client.0 key time.0)
         (span img.now key (reach img.now key)) }
-    ensures marks { OnOk result (Marks img.now time.0 key (reach img.now key) marks.new) }
-    ensures tally { OnOk result (Tallies img.now time.0 key (reach img.now key) tally.new) }
+    ensures losses { OnOk result
+        (Lost img.now time.0 key (reach img.now key) losses.new.marks losses.new.tally) }
 {
     let Trailer { n, clock } = front::changing(client, Tick(0), time, img)?;
     managed(n, client, key, false)?;
@@ -212,7 +197,7 @@ fn tried(
         n,
         clock,
     };
-    if !decide(image, span, time, marks, tally) {
+    if !decide(image, span, time, losses) {
         return Err(Report::Damaged);
     }
     Ok(span)
@@ -223,23 +208,20 @@ fn give_scavenge(
     t: Tariff,
     time: Tick,
     span: Span,
-    marks: &[bool; MOST_HEADERS],
-    tally: &[u32; CLIENTS],
+    losses: &Losses,
     img: &mut [u8],
 ) -> ScavengeAnswer
     requires { Laid img.old span.n × (span.from + span.visited ≤ span.n) × (span.visited ≤ 64)
-        × Marks img.old time.0 span.from span.visited marks.now
-        × Tallies img.old time.0 span.from span.visited tally.now }
+        × Lost img.old time.0 span.from span.visited losses.now.marks losses.now.tally }
     ensures answer { result ≡ record {
       receipt = receipt Success (scavenge_charge t);
       key = key_at span.n (span.from + span.visited);
-      count = length (picked (marked marks.now span.from) span.from span.visited);
+      count = length (picked (marked losses.now.marks span.from) span.from span.visited);
     } }
-    ensures image { img.new ≡ removed_by span.n time.0 marks.now
-        tally.now span.from span.visited
-        img.old }
+    ensures image { img.new ≡ removed_by span.n time.0 losses.now.marks losses.now.tally
+        span.from span.visited img.old }
 {
-    let count = remove(img, span, time, marks, tally);
+    let count = remove(img, span, time, losses);
     ScavengeAnswer {
         receipt: front::done(tariff::price(t.scavenge)),
         key: key_at(span.n, span.from + span.visited),
@@ -251,14 +233,16 @@ fn give_scavenge(
 pub fn scavenge(t: Tariff, client: User, key: u32, time: Tick, img: &mut [u8]) -> ScavengeAnswer
     ensures { ScavengePromise t img.old client.0 key time.0 result img.new }
 {
-    let mut marks = [false; MOST_HEADERS];
-    let mut tally = [0; CLIENTS];
-    match tried(client, key, time, img, &mut marks, &mut tally) {
+    let mut losses = Losses {
+        marks: [false; MOST_HEADERS],
+        tally: [0; CLIENTS],
+    };
+    match tried(client, key, time, img, &mut losses) {
         Err(r) => ScavengeAnswer {
             receipt: front::refused(t, r),
             key,
             count: 0,
         },
-        Ok(span) => give_scavenge(t, time, span, &marks, &tally, img),
+        Ok(span) => give_scavenge(t, time, span, &losses, img),
     }
 }

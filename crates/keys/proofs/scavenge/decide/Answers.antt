@@ -9,8 +9,7 @@ returns-then-not-all_good c =
     let p = c.requires in record {
       answer = bad_header _ _ _ _ _ c.args.image.known.its_n p.1
           (sym c.all_good.ensures ∙ c.if-not-all_good.true);
-      marks = λ e. absurd (true≢false (sym e));
-      tally = λ e. absurd (true≢false (sym e));
+      losses = λ e. absurd (true≢false (sym e));
     }
 
 pub returns : goal.returns
@@ -19,7 +18,6 @@ returns c =
     let g = sym c.all_good.ensures ∙ c.if-not-all_good.false in record {
       answer = c.has_counts.ensures
           ∙ decided a.image.bytes.now a.time.0 a.span.from a.span.visited g a.image.n a.image.known.its_n c.requires.1
-          c.mark_all.new.tally c.mark_all.ensures.tally;
-      marks = λ e. c.mark_all.ensures.marks;
-      tally = λ e. c.mark_all.ensures.tally;
+          c.mark_all.new.losses.tally c.mark_all.ensures.1;
+      losses = λ e. c.mark_all.ensures;
     }

@@ -7,4 +7,4 @@ use Rattle.keys.proofs.scavenge.give_scavenge.Goals as goal
 pub overflow_cast-result : goal.overflow_cast-result
 overflow_cast-result c =
     let a = c.args in
-    omega (arith, c.remove-count.ensures.gone, picked_few (marked a.marks.now a.span.from) a.span.from a.span.visited)
+    omega (arith, c.remove-count.ensures.gone, picked_few (marked a.losses.now.marks a.span.from) a.span.from a.span.visited)

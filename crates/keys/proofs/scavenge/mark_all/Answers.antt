@@ -17,7 +17,7 @@ loop-i-init c =
       search rules,
       search rules,
       λ j h. absurd (omega arith),
-      tally_begun a.img.now a.time.0 a.span.from a.span.visited a.tally.now c.requires.2,
+      tally_begun a.img.now a.time.0 a.span.from a.span.visited a.losses.now.tally c.requires.2,
     )
 
 pub tally_loss-requires : goal.tally_loss-requires
@@ -27,7 +27,7 @@ tally_loss-requires c =
     let o = owner_below a.img.now a.time.0 a.span.from a.span.visited c.requires.3 (a.span.from + l.i)
     (omega arith) (omega arith) in (
       λ u h. omega
-          (arith, tally_few a.img.now a.time.0 a.span.from a.span.visited l.tally l.i l.invariant.3 u h, c.requires.1),
+          (arith, tally_few a.img.now a.time.0 a.span.from a.span.visited l.losses.tally l.i l.invariant.3 u h, c.requires.1),
       rw c.loser-who.ensures (client_loses a.img.now a.time.0 (a.span.from + l.i) o),
     )
 
@@ -39,19 +39,18 @@ loop-i-preserved c =
     let o = owner_below a.img.now a.time.0 a.span.from a.span.visited c.requires.3 b (omega arith) (omega arith) in
     let gone = c.is_some.ensures ∙ ap (λ (x : Option User). is_some x) c.loser-who.ensures
     ∙ is_loser a.img.now a.time.0 b in (
-      length-set l.marks l.i c.is_some.result ∙ l.invariant.0,
+      length-set l.losses.marks l.i c.is_some.result ∙ l.invariant.0,
       ap length c.tally_loss.ensures ∙ length-raised _ _ ∙ l.invariant.1,
-      marked_on a.img.now a.time.0 a.span.from l.i l.marks _ (omega (arith, l.invariant.0)) gone
+      marked_on a.img.now a.time.0 a.span.from l.i l.losses.marks _ (omega (arith, l.invariant.0)) gone
           l.invariant.2,
-      rw (c.tally_loss.ensures, c.loser-who.ensures) (tally_turn a.img.now a.time.0 a.span.from a.span.visited l.tally
+      rw (c.tally_loss.ensures, c.loser-who.ensures) (tally_turn a.img.now a.time.0 a.span.from a.span.visited l.losses.tally
           l.i (omega arith) l.invariant.1 o l.invariant.3),
     )
 
 pub returns : goal.returns
 returns c =
     let a = c.args in
-    let l = c.loop-i in
-    record {
-      marks = λ i h. l.invariant.2 i (omega arith);
-      tally = tally_end a.img.now a.time.0 a.span.from a.span.visited l.tally l.i (omega arith) l.invariant.3;
-    }
+    let l = c.loop-i in (
+      λ i h. l.invariant.2 i (omega arith),
+      tally_end a.img.now a.time.0 a.span.from a.span.visited l.losses.tally l.i (omega arith) l.invariant.3,
+    )

@@ -10,6 +10,6 @@ use Rattle.keys.proofs.scavenge.mark_all.Given as goal
 
 abbrev pub invariant-loop-i : goal.invariant-loop-i
 invariant-loop-i l =
-    (length l.marks ≡ 64) × (length l.tally ≡ 64)
-    × ((j : ℕ) → j < l.i → get_or l.marks j false ≡ expired l.img l.time.0 (l.fn.span.from + j))
-    × Tallied l.img l.time.0 l.fn.span.from l.fn.span.visited l.tally l.i
+    (length l.losses.marks ≡ 64) × (length l.losses.tally ≡ 64)
+    × ((j : ℕ) → j < l.i → get_or l.losses.marks j false ≡ expired l.img l.time.0 (l.fn.span.from + j))
+    × Tallied l.img l.time.0 l.fn.span.from l.fn.span.visited l.losses.tally l.i

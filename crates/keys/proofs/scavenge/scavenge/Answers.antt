@@ -11,9 +11,9 @@ tried-requires c = zeros 64
 pub give_scavenge-requires : goal.give_scavenge-requires
 give_scavenge-requires c =
     let t = c.tried in
-    let r = room_for _ _ _ _ _ (sym c.in-Ok.is ∙ t.ensures.report) t.new.marks
-    c.in-Ok.ensures.marks t.new.tally c.in-Ok.ensures.tally in
-    (r.0, r.1, r.2, r.3, r.4)
+    let r = room_for _ _ _ _ _ (sym c.in-Ok.is ∙ t.ensures.report) t.new.losses.marks
+    t.new.losses.tally c.in-Ok.ensures.losses in
+    (r.0, r.1, r.2, r.3)
 
 pub returns-in-Err : goal.returns-in-Err
 returns-in-Err c = rw c.refused.ensures (refuses _ _ _ _ _ _ (sym c.in-Err.is ∙ c.tried.ensures.report))
@@ -21,6 +21,6 @@ returns-in-Err c = rw c.refused.ensures (refuses _ _ _ _ _ _ (sym c.in-Err.is �
 pub returns-in-Ok : goal.returns-in-Ok
 returns-in-Ok c =
     let t = c.tried in
-    sweeps _ _ _ _ _ (sym c.in-Ok.is ∙ t.ensures.report) _ t.new.marks c.in-Ok.ensures.marks t.new.tally
-    c.in-Ok.ensures.tally (λ x. omega (arith, c.slice_known-1.given x)) _ _
+    sweeps _ _ _ _ _ (sym c.in-Ok.is ∙ t.ensures.report) _ t.new.losses.marks t.new.losses.tally
+    c.in-Ok.ensures.losses (λ x. omega (arith, c.slice_known-1.given x)) _ _
     c.give_scavenge.ensures.answer c.give_scavenge.ensures.image

@@ -10,8 +10,7 @@ pub returns-in_err-n : goal.returns-in_err-n
 returns-in_err-n c =
     let e = rethrown c.from_residual.result c.in_err-n.field-0.0 c.from_residual.ensures.1 in record {
       report = e ∙ tried_front _ _ _ _ _ (sym c.changing.ensures ∙ c.in_err-n.was);
-      marks = rw e tt;
-      tally = rw e tt;
+      losses = rw e tt;
     }
 
 pub returns-in_err-managed : goal.returns-in_err-managed
@@ -20,8 +19,7 @@ returns-in_err-managed c =
     let e = rethrown c.from_residual-in_err-managed.result r c.from_residual-in_err-managed.ensures.1 in record {
       report = e ∙ tried_asked _ _ _ _ _ (sym c.changing.ensures ∙ c.in_ok-n.was) r (sym c.managed.ensures
           ∙ c.in_err-managed.was);
-      marks = rw e tt;
-      tally = rw e tt;
+      losses = rw e tt;
     }
 
 pub reach-visited-requires : goal.reach-visited-requires
@@ -41,8 +39,7 @@ pub returns-then-not-decide : goal.returns-then-not-decide
 returns-then-not-decide c = record {
   report = tried_damaged _ _ _ _ _ (sym c.changing.ensures ∙ c.in_ok-n.was) (sym c.managed.ensures
       ∙ c.in_ok-managed.was) _ c.reach-visited.ensures (sym c.decide.ensures.answer ∙ c.if-not-decide.true);
-  marks = tt;
-  tally = tt;
+  losses = tt;
 }
 
 pub returns : goal.returns
@@ -53,8 +50,7 @@ returns c =
     let well = c.if-not-decide.false in
     let k = visited-reach a.img.now a.client.0 a.key a.time.0 _ o z _ c.reach-visited.ensures in record {
       report = tried_well _ _ _ _ _ o z _ c.reach-visited.ensures (sym c.decide.ensures.answer ∙ well);
-      marks = rw k at (c.decide.ensures.marks well);
-      tally = rw k at (c.decide.ensures.tally well);
+      losses = rw k at (c.decide.ensures.losses well);
     }
 
 pub invariant_of-image : goal.invariant_of-image
