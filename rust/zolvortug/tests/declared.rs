@@ -54,7 +54,8 @@ type Fields = Vec<(String, String)>;
 /// The `#[repr(C)]` structs: name to fields. A tuple struct of one number has the field "0".
 fn structs(text: &str) -> BTreeMap<String, Fields> {
     let mut found = BTreeMap::new();
-    for item in text.split("#[repr(C)]\n#[derive(Clone, Copy)]\npub struct ").skip(1) {
+    for item in text.split("#[repr(C)]\n#[derive(").skip(1) {
+        let (_, item) = item.split_once(")]\npub struct ").expect("a struct");
         let open = item.find(['{', '(']).expect("fields");
         let close = if item[open..].starts_with('{') { '}' } else { ')' };
         let body = &item[open + 1..item.find(close).expect("an end")];
