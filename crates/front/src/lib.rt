@@ -33,7 +33,8 @@ pub fn done(charge: Money) -> Receipt
     }
 }
 
-// The image and the client.
+// The image and the client. What is given is the trailer's, and not an Image: `front_of` names it for every input, and
+// so can't give it a fact.
 #[tactic(auto, using(crate::proofs::Fronts::reading_cases))]
 pub fn reading(client: User, img: &[u8]) -> Result<Trailer, Report>
     ensures { result ≡ front_of (lowest (reading_rows img.now client.0)) img.now }
@@ -53,7 +54,7 @@ fn bad_times(expiry: Tick, time: Tick) -> bool
 }
 
 // The image, the client, the times and the clock. An operation that is asked for no expiry passes 0, which is always
-// allowed.
+// allowed, as `changing_rows` has it.
 #[tactic(auto, using(crate::proofs::Fronts::changing_cases))]
 pub fn changing(client: User, expiry: Tick, time: Tick, img: &[u8]) -> Result<Trailer, Report>
     ensures { result ≡ front_of (lowest (changing_rows img.now client.0 expiry.0 time.0))

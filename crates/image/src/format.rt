@@ -38,7 +38,7 @@ fn write_trailer(img: &mut [u8], n: usize)
 }
 
 // Zeroes the image, sets its N map bits and writes its trailer; refuses an N or a length that is not right, and then
-// changes no byte.
+// changes no byte. Its answer is a report alone, as document 01 has it.
 pub fn format(n: u32, img: &mut [u8]) -> Report
     ensures { FormatPromise n img.old result img.new }
 {

@@ -98,9 +98,7 @@ impl Header<'_> {
         requires { (clock.0 < 2 ^ 40) × (b.0 < 4096) }
         ensures { result ≡ used_right clock.0 b.0 self.entry.bytes.now }
     {
-        self.shape_right()
-            && self.times_right(clock)
-            && self.id().0 == ident::make(self.created(), b).0
+        self.shape_right() && self.times_right(clock) && self.id() == ident::make(self.created(), b)
     }
 
     // Whether it is good, by the block's map bit.
@@ -124,7 +122,7 @@ pub fn is_owned(img: &[u8], client: User, b: usize) -> bool
     ensures { result ≡ owned_by img.now client.0 b }
 {
     let h = of(img, b);
-    h.is_used() && h.owner().0 == client.0
+    h.is_used() && h.owner() == client
 }
 
 // The header of a used block.

@@ -54,9 +54,8 @@ pub fn free_bit(img: &mut [u8], n: usize, b: BlockNum)
 {
     let i = b.0 as usize;
     let at = HEADER * n + i / 8;
-    let m = u8::get(img, at) as u32;
-    let w = weight(i % 8) as u32;
-    u8::put(img, at, ((m + w) % 256) as u8)
+    let m = u8::get(img, at);
+    u8::put(img, at, m.wrapping_add(weight(i % 8)))
 }
 
 // The lowest free block from byte `from` of the map on. Of a byte that is 0 no bit is looked at.

@@ -103,7 +103,7 @@ fn same_count(img: &[u8], n: usize, u: User, tally: &[u32; CLIENTS]) -> bool
     counts::count_of(img, n, u) == tally[u.0 as usize] as u64
 }
 
-// Whether each count is its tally.
+// Whether each count is its tally. A loop: from what `all` ensures, `all_of` was not proved.
 fn same_counts(img: &[u8], n: usize, tally: &[u32; CLIENTS]) -> bool
     requires { Laid img.now n }
     ensures { result ≡ all_of (same_count n img.now tally.now) 0 64 }

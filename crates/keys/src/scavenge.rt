@@ -24,7 +24,7 @@ use kinds::limits::{CLIENTS, MOST_HEADERS};
 use kinds::{BlockNum, Report, ScavengeAnswer, Tick, User};
 use tariff::Tariff;
 
-// What is to go: a mark for each header visited, and how many blocks each client loses.
+// What is to go: a mark for each header visited, and how many blocks each client loses. Two arrays: there is no heap.
 #[derive(Drop)]
 struct Losses {
     marks: [bool; MOST_HEADERS],
@@ -76,7 +76,7 @@ fn has_count(img: &[u8], n: usize, u: User, tally: &[u32; CLIENTS]) -> bool
     k <= counts::count_of(img, n, u)
 }
 
-// Whether no client's count is below its tally.
+// Whether no client's count is below its tally. A loop: from what `all` ensures, `all_of` was not proved.
 fn has_counts(img: &[u8], n: usize, tally: &[u32; CLIENTS]) -> bool
     requires { Laid img.now n }
     ensures { result ≡ all_of (has_count n img.now tally.now) 0 64 }

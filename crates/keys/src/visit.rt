@@ -10,7 +10,8 @@ use image::known::Image;
 use kinds::limits::MOST_IDS;
 use kinds::{BlockNum, User};
 
-// The headers that a call visits, where the image has n: how many, and the block number of the first.
+// The headers that a call visits, where the image has n: how many, and the block number of the first. That they are of
+// the image is said in contracts: `span` names a Span for every input, and so can't give it a fact.
 #[derive(Clone, Copy)]
 pub(crate) struct Span {
     pub(crate) n: usize,

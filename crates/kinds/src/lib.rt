@@ -7,7 +7,7 @@ ghost use Rattle.kinds.specs.Report.{number_of};
 
 pub mod limits;
 
-// A time, in ticks of 1 ms.
+// A time, in ticks of 1 ms. A call takes any and refuses those from 2^40 on.
 #[repr(C)]
 #[derive(Clone, Copy, PartialEq, Eq)]
 pub struct Tick(pub u64);
@@ -17,7 +17,7 @@ pub struct Tick(pub u64);
 #[derive(Clone, Copy, PartialEq, Eq)]
 pub struct Money(pub i64);
 
-// A client's number.
+// A client's number. A call takes any and refuses those above 63.
 #[repr(C)]
 #[derive(Clone, Copy, PartialEq, Eq)]
 pub struct User(pub u32);
@@ -85,7 +85,8 @@ pub struct Receipt {
     pub charge: Money,
 }
 
-// The answer of each operation: the receipt, then its results in the monograph's order.
+// The answer of each operation: the receipt, then its results in the monograph's order. Each operation has a struct of
+// its own, as the project has it; a refusal has results too, which document 01 gives, so that none is a Result.
 #[derive(Clone, Copy)]
 pub struct CreateAnswer {
     pub receipt: Receipt,
@@ -152,9 +153,9 @@ pub struct ProfileAnswer {
 }
 
 // A walk over a client's ids, kept by its caller: how many ids a step may name, the key to go on with, and whether the
-// end key came.
+// end key came. C has the same four fields.
 #[repr(C)]
-#[derive(Clone, Copy)]
+#[derive(Clone, Copy, PartialEq, Eq)]
 pub struct Walk {
     pub client: User,
     pub count: u32,

@@ -16,11 +16,13 @@ pub(crate) struct Fresh<'a> {
     pub(crate) time: Tick,
     pub(crate) expires: Tick,
     pub(crate) bytes: &'a [u8],
+    pub(crate) ghost known: { owner.0 < 64 },
+    pub(crate) ghost whole: { length bytes.now ≡ 528 },
 }
 
 // The stores: the clock, the data, the header.
 pub(crate) fn write(img: &mut [u8], n: usize, b: BlockNum, fresh: Fresh)
-    requires { Laid img.old n × (b.0 < n) × (fresh.owner.0 < 64) × (length fresh.bytes.now ≡ 528) }
+    requires { Laid img.old n × (b.0 < n) }
     ensures { img.new ≡ puts img.old
         (block_writes n b.0 fresh.entry.owner.0 fresh.entry.id.0 fresh.entry.expires.0
         fresh.entry.bytes.now fresh.entry.time.0) }

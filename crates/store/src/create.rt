@@ -60,7 +60,7 @@ fn seek_free(
 // The stores.
 fn fill(img: &mut [u8], place: Place, fresh: Fresh)
     requires { Laid img.old place.n × (place.b.0 < place.n) × (free place.n img.old place.b.0 ≡ true)
-        × (fresh.owner.0 < 64) × (length fresh.bytes.now ≡ 528) × (place.count < place.n) }
+        × (place.count < place.n) }
     ensures { img.new ≡ puts img.old
         (fill_writes img.old place.n place.b.0 fresh.entry.owner.0 fresh.entry.id.0
         fresh.entry.expires.0 (place.count + 1) fresh.entry.bytes.now fresh.entry.time.0) }

@@ -65,6 +65,7 @@ pub fn create_charge(t: Tariff, created: Tick, expires: Tick) -> Money
     with_storage(t.create, t.rate, expires, created)
 }
 
+// `created` stands in document 01's sum once with each sign, so here it is in the promise alone.
 pub fn destroy_charge(t: Tariff, created: Tick, expires: Tick, time: Tick) -> Money
     requires { (expires.0 < 2 ^ 40) × (time.0 < 2 ^ 40) }
     ensures { result ≡ money (destroy_charge t created.0 expires.0 time.0) }

@@ -117,10 +117,6 @@ fn answered(receipt: Receipt, key: u32, number: u32, record: u64) -> Seen {
     }
 }
 
-fn is_same(a: Walk, b: Walk) -> bool {
-    a.client.0 == b.client.0 && a.count == b.count && a.key == b.key && a.ended == b.ended
-}
-
 // The record of a walk after a step that answered a key: 0 as it was, 1 moved to the key, 2 anything else.
 pub(crate) fn record_of(before: Walk, after: Walk, key: u32) -> u64 {
     let moved = Walk {
@@ -128,9 +124,9 @@ pub(crate) fn record_of(before: Walk, after: Walk, key: u32) -> u64 {
         ended: key == END_KEY,
         ..before
     };
-    if is_same(after, before) {
+    if after == before {
         0
-    } else if is_same(after, moved) {
+    } else if after == moved {
         1
     } else {
         2

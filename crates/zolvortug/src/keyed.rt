@@ -41,6 +41,7 @@ pub struct Stepped {
     pub report: u8,
 }
 
+// GetIds and Profile have an answer each, with the same fields, and so a From each.
 impl From<GetIdsAnswer> for Listed {
     ghost from_gives = { λ a flat. flat ≡ listed a };
 

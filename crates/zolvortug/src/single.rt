@@ -51,6 +51,7 @@ pub struct Counted {
     pub report: u8,
 }
 
+// Create and Replace have an answer each, with the same fields, and so a From each.
 impl From<CreateAnswer> for Created {
     ghost from_gives = { λ a flat. flat ≡ created a };
 

@@ -11,4 +11,4 @@ low_byte x = let e : x % 256 % 256 ≡ x % 256 = omega arith in rw e
 pub returns : goal.returns
 unfolding puts
 returns c =
-    rw (c.put.ensures, c.weight-w.ensures, c.get-m.ensures) (rw low_byte)
+    rw (c.put.ensures, c.weight.ensures, c.get-m.ensures) (rw low_byte)

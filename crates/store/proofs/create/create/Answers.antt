@@ -10,10 +10,15 @@ make-id-requires c =
     let h = free_block _ _ _ _ _ _ (sym c.seek_free.ensures ∙ c.in-Ok.is) in
     (h.time_fits, omega (arith, h.below, h.laid.number.most))
 
+pub invariant_of-fresh : goal.invariant_of-fresh
+invariant_of-fresh c =
+    let h = free_block _ _ _ _ _ _ (sym c.seek_free.ensures ∙ c.in-Ok.is) in
+    record { known = h.user; whole = h.its_room }
+
 pub fill-requires : goal.fill-requires
 fill-requires c =
     let h = free_block _ _ _ _ _ _ (sym c.seek_free.ensures ∙ c.in-Ok.is) in
-    (h.laid, h.below, h.bit, h.user, h.its_room, h.counted)
+    (h.laid, h.below, h.bit, h.counted)
 
 pub create_charge-requires : goal.create_charge-requires
 create_charge-requires c =

@@ -21,10 +21,15 @@ make-made-requires c =
     let h = held _ _ _ _ _ _ _ (sym c.seek_own.ensures ∙ c.in-Ok.is) in
     (h.time_fits, omega (arith, h.below, h.laid.number.most))
 
+pub invariant_of-fresh : goal.invariant_of-fresh
+invariant_of-fresh c =
+    let h = held _ _ _ _ _ _ _ (sym c.seek_own.ensures ∙ c.in-Ok.is) in
+    record { known = h.user; whole = eqb-true _ _ h.its_room }
+
 pub write-requires : goal.write-requires
 write-requires c =
     let h = held _ _ _ _ _ _ _ (sym c.seek_own.ensures ∙ c.in-Ok.is) in
-    (h.laid, h.below, h.user, eqb-true _ _ h.its_room)
+    (h.laid, h.below)
 
 pub returns-in-Err : goal.returns-in-Err
 returns-in-Err c = replace_refused _ _ _ _ _ _ _ _ (sym c.seek_own.ensures ∙ c.in-Err.is) c.refused.ensures
