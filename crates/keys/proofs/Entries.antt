@@ -1,18 +1,17 @@
 -- Profile, answered by answered.
 -- Assumes nothing.
 use Prim.Native.Nat.{ℕ, ◌+◌, ◌*◌, ◌≤◌, ◌<◌}
-use mathlib.Core.Path.{◌≡◌, refl, sym, ◌∙◌, ap}
+use mathlib.Core.Path.{◌≡◌, refl, sym, ◌∙◌}
 use mathlib.Core.Bool.{Bool, true, false, not}
 use mathlib.Core.List.{List, [], ◌∷◌, ◌++◌}
 use native.Mathlib.Omega.{arith}
 use borrow.Author.Tests.{leb-false, ltb-false, not-false}
 use lib.Dec.{ltb}
 use lib.ListN.{length}
-use Rattle.std.specs.Prelude.{Result, Ok, Err}
+use Rattle.std.specs.Prelude.{Ok, Err}
 use Rattle.word.specs.Word.{bytes_of}
 use Rattle.word.specs.Write.{over}
 use Rattle.word.proofs.Laws.{length-bytes_of, over_nil}
-use Rattle.run.specs.Run as Run
 use Rattle.run.specs.Run.{one, just, picked, rows}
 use Rattle.run.proofs.Laws.{one_yes, one_no}
 use Rattle.run.proofs.Turns.{row-yes, row-no}
@@ -24,21 +23,19 @@ use Rattle.tariff.specs.declared.Tariff.{Tariff}
 use Rattle.promise.specs.Trailer.{n_of, clock_of, trailer_right}
 use Rattle.promise.specs.Header.{header_of, is_used}
 use Rattle.promise.specs.Refusals.{Row, row, lowest, succeeds, receipt, refusal}
-use Rattle.promise.proofs.RefusalLaws.{rising}
 use Rattle.promise.proofs.RowLaws.{clear}
 use Rattle.promise.specs.Keys.{reach, key_at, visited_good}
 use Rattle.promise.specs.Profile.{profiled, profile_row, profile_rows, profile_report, profile_answer, profile_buffer}
 use Rattle.promise.specs.Profile.{ProfilePromise}
-use Rattle.image.specs.Image.{trailer_in, Laid}
+use Rattle.image.specs.Image.{Laid}
 use Rattle.image.proofs.Checks.{known}
 use Rattle.image.proofs.Pieces.{next}
-use Rattle.front.specs.Rows.{reading_rows, front_of, answered}
-use Rattle.image.specs.declared.trailer.Trailer.{Trailer}
-use Rattle.front.proofs.Fronts.{told_err, told_ok, reading_rising}
+use Rattle.front.specs.Rows.{reading_rows}
+use Rattle.front.proofs.Fronts.{reading_rising}
 use Rattle.keys.specs.Visit.{used, entry_of}
-use Rattle.keys.specs.Asked.{manager_rows, span}
+use Rattle.keys.specs.Asked.{manager_rows}
 use Rattle.keys.specs.declared.visit.Span.{Span}
-use Rattle.keys.proofs.Rows.{in_front, by-numbers, by-headers, Clear, clears}
+use Rattle.keys.proofs.Rows.{Clear, clears, manager_rising, Call, Tried, refused, let_through, its_span}
 
 -- an entry has 24 bytes
 pub length-profile_row : (img : List ℕ) (b : ℕ) → length (profile_row img b) ≡ 24
@@ -101,69 +98,38 @@ module _ (img : List ℕ) (client key : ℕ) (buffer : List ℕ) where
   abbrev last : List Row
   last = row (not (visited_good img key (reach img key))) Damaged ∷ []
 
-  by_rows : (n : ℕ) → n_of img ≡ n
+  pub by_rows : (n : ℕ) → n_of img ≡ n
       → profile_report img client key buffer ≡ lowest (reading_rows img client ++ (asked n ++ last))
   unfolding profile_report profile_rows reading_rows
   by_rows n k = rw k
 
-  abbrev pub Tried : Result Span Report → Type 0
-  Tried r = r ≡ answered (profile_report img client key buffer) (span img key (reach img key))
+  abbrev pub the_call : Call
+  the_call = record {
+    img = img;
+    key = key;
+    front = reading_rows img client;
+    asked = asked;
+    damaged = not (visited_good img key (reach img key));
+    visited = reach img key;
+    report = profile_report img client key buffer;
+    by_rows = by_rows;
+    front_rising = reading_rising img client;
+    asked_rising = λ n. manager_rising n client key (ltb (length buffer) 1536);
+  }
 
-  -- ---- the tests, one after the other
+  pub refuses : (t : Tariff) (r : Report) → Tried the_call (Err r)
+      → ProfilePromise t img client key buffer (record { receipt = refusal t r; key = key; entries = 0 }) buffer
+  unfolding profile_answer profile_buffer
+  refuses t r e = let w = refused the_call e in record { answer = rw (w.0, w.1); given = rw (w.0, w.1) }
 
-  pub tried_front : (r : Report) → front_of (lowest (reading_rows img client)) img ≡ Err r → Tried (Err r)
-  tried_front r e = rw (by_rows (n_of img) refl) (in_front (reading_rows img client) (asked (n_of img)) last img _ r e)
-
-  module _ (t : Trailer) (o : front_of (lowest (reading_rows img client)) img ≡ Ok t) where
-    its : n_of img ≡ t.n
-    its = ap (λ (x : Trailer). x.n) (told_ok (lowest (reading_rows img client)) (trailer_in img) t o).1
-
-    pub tried_asked : (r : Report) → answered (lowest (asked t.n)) (tt {0}) ≡ Err r → Tried (Err r)
-    tried_asked r e = rw (by_rows t.n its)
-        (by-numbers (reading_rows img client) (asked t.n) last img (reading_rising img client) t o _ r e)
-
-    module _ (z : Clear (asked t.n)) (m : ℕ) (e : m ≡ Run.reach t.n key) where
-      after : profile_report img client key buffer ≡ lowest last
-      unfolding rising
-      after = by_rows t.n its ∙ by-headers (reading_rows img client) (asked t.n) last img
-          (reading_rising img client) t o refl z
-
-      its-reach : m ≡ reach img key
-      its-reach = rw its e
-
-      pub tried_damaged : visited_good img key m ≡ false → Tried (Err Damaged)
-      unfolding lowest answered
-      tried_damaged g = sym (rw (after, rw its-reach at g))
-
-      pub tried_well : visited_good img key m ≡ true → Tried (Ok (record { n = t.n; from = key; visited = m }))
-      unfolding lowest answered
-      tried_well g = sym (rw (after, rw its-reach at g, its-reach, its))
-
-  -- ---- the answers
-
-  module _ (t : Tariff) where
-    pub refuses : (r : Report) → Tried (Err r)
-        → ProfilePromise t img client key buffer (record { receipt = refusal t r; key = key; entries = 0 }) buffer
-    unfolding profile_answer profile_buffer
-    refuses r e =
-        let w = told_err (profile_report img client key buffer) _ r (sym e) in
-        let f : succeeds r ≡ false = rw w.1 at w.0 in
-        record { answer = rw (w.1, f); given = rw (w.1, f) }
-
-  module _ (s : Span) (e : Tried (Ok s)) where
-    let_through : succeeds (profile_report img client key buffer) ≡ true
-    let_through = (told_ok (profile_report img client key buffer) _ s (sym e)).0
-
-    its_span : span img key (reach img key) ≡ s
-    its_span = (told_ok (profile_report img client key buffer) _ s (sym e)).1
-
+  module _ (s : Span) (e : Tried the_call (Ok s)) where
     pub room_for : Laid img s.n × (s.from + s.visited ≤ s.n) × (s.visited ≤ 64) × (1536 ≤ length buffer)
     unfolding profile_report profile_rows
     room_for =
-        let a = clear _ _ (omega arith) let_through in
+        let a = clear _ _ (omega arith) (let_through the_call e) in
         let b = clear _ _ (omega arith) a.1 in
         let f = fit (n_of img) client key (ltb (length buffer) 1536) last b.1 in
-        rw (← its_span) (
+        rw (← its_span the_call e) (
           (known img (n_of img) (clock_of img) (not-false (trailer_right img) a.0) refl refl).laid,
           omega arith,
           omega arith,
@@ -180,4 +146,6 @@ module _ (img : List ℕ) (client key : ℕ) (buffer : List ℕ) where
         → ProfilePromise t img client key buffer a buffer'
     unfolding profile_answer profile_buffer profiled
     enters t a buffer' p q =
-        record { answer = rw let_through (p ∙ rw (← its_span)); given = rw let_through (q ∙ rw (← its_span)) }
+        let w = let_through the_call e in
+        let l = its_span the_call e in
+        record { answer = rw w (p ∙ rw (← l)); given = rw w (q ∙ rw (← l)) }

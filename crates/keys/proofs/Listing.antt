@@ -1,16 +1,17 @@
 -- GetIds, answered by answered.
 -- Assumes nothing.
 use Prim.Native.Nat.{ℕ, ◌+◌, ◌*◌, ◌≤◌, ◌<◌}
-use mathlib.Core.Path.{◌≡◌, refl, sym, ◌∙◌, ap}
+use mathlib.Core.Path.{◌≡◌, refl, sym, ◌∙◌}
 use mathlib.Core.Bool.{true, false, not}
 use mathlib.Core.List.{List, [], ◌∷◌, ◌++◌}
 use native.Mathlib.Omega.{arith}
 use borrow.Author.Tests.{leb-false, ltb-false, not-false}
 use lib.ListN.{length}
-use Rattle.std.specs.Prelude.{Result, Ok, Err, ok_or}
+use Rattle.std.specs.Prelude.{Ok, Err, ok_or}
 use Rattle.word.specs.Word.{bytes_of}
 use Rattle.word.specs.Write.{over}
 use Rattle.word.proofs.Laws.{length-bytes_of, over_nil}
+use Rattle.run.specs.Run as Run
 use Rattle.run.specs.Run.{one, just, picked, visits, reach, rows}
 use Rattle.run.proofs.Laws.{one_yes, one_no, visits-le, picked-le}
 use Rattle.run.proofs.Turns.{row-yes, row-no}
@@ -29,15 +30,16 @@ use Rattle.promise.specs.Keys.{key_at, visited_good}
 use Rattle.promise.specs.GetIds.{ids_visited, ids_named, id_row, get_ids_rows, get_ids_report, get_ids_answer}
 use Rattle.promise.specs.GetIds.{get_ids_buffer}
 use Rattle.promise.specs.GetIds.{GetIdsPromise}
-use Rattle.image.specs.Image.{trailer_in, Laid}
+use Rattle.image.specs.Image.{Laid}
 use Rattle.image.proofs.Checks.{known}
-use Rattle.front.specs.Rows.{reading_rows, front_of, answered}
+use Rattle.front.specs.Rows.{reading_rows, front_of}
 use Rattle.image.specs.declared.trailer.Trailer.{Trailer}
-use Rattle.front.proofs.Fronts.{told_err, told_ok, reading_rising}
+use Rattle.front.proofs.Fronts.{reading_rising}
 use Rattle.keys.specs.Visit.{visited_of}
-use Rattle.keys.specs.Asked.{ids_rows, span}
+use Rattle.keys.specs.Asked.{ids_rows}
 use Rattle.keys.specs.declared.visit.Span.{Span}
-use Rattle.keys.proofs.Rows.{in_front, by-numbers, by-headers, Clear, clears}
+use Rattle.keys.proofs.Rows.{Clear, clears, Call, Tried, reached, tried_damaged, tried_well}
+use Rattle.keys.proofs.Rows.{refused, let_through, its_span}
 use Rattle.keys.proofs.Visits.{told_bad, told-good}
 
 -- an entry has 8 bytes
@@ -67,6 +69,9 @@ fit n key count room ws z =
       fits = omega (arith, ltb-false room (8 * count) c.0);
     }
 
+pub below : (n key count room : ℕ) → Clear (ids_rows n key count room) → key < n
+below n key count room z = (fit n key count room [] (clears (ids_rows n key count room) z)).below
+
 -- ---- one block
 
 module _ (img : List ℕ) (client b : ℕ) (ids : List ℕ) (k : ℕ) where
@@ -91,6 +96,10 @@ module _ (img : List ℕ) (client b : ℕ) (ids : List ℕ) (k : ℕ) where
 
 -- ---- the report
 
+pub ids_rising : (n key count room : ℕ) → rising 1 (ids_rows n key count room) ≡ true
+unfolding rising
+ids_rising n key count room = refl
+
 module _ (img : List ℕ) (client key count : ℕ) (ids : List ℕ) where
   abbrev asked : ℕ → List Row
   asked n = ids_rows n key count (length ids)
@@ -98,84 +107,61 @@ module _ (img : List ℕ) (client key count : ℕ) (ids : List ℕ) where
   abbrev last : List Row
   last = row (not (visited_good img key (ids_visited img client key count))) Damaged ∷ []
 
-  by_rows : (n : ℕ) → n_of img ≡ n
+  pub by_rows : (n : ℕ) → n_of img ≡ n
       → get_ids_report img client key count ids ≡ lowest (reading_rows img client ++ (asked n ++ last))
   unfolding get_ids_report get_ids_rows reading_rows
   by_rows n k = rw k
 
-  abbrev pub Tried : Result Span Report → Type 0
-  Tried r = r ≡ answered (get_ids_report img client key count ids) (span img key (ids_visited img client key count))
+  abbrev pub the_call : Call
+  the_call = record {
+    img = img;
+    key = key;
+    front = reading_rows img client;
+    asked = asked;
+    damaged = not (visited_good img key (ids_visited img client key count));
+    visited = ids_visited img client key count;
+    report = get_ids_report img client key count ids;
+    by_rows = by_rows;
+    front_rising = reading_rising img client;
+    asked_rising = λ n. ids_rising n key count (length ids);
+  }
 
-  -- ---- the tests, one after the other
+  module _ (t : Trailer) (o : front_of (lowest (reading_rows img client)) img ≡ Ok t) (z : Clear (asked t.n)) (m : ℕ)
+      (e : m ≡ Run.reach t.n key) where
+    its-visited : visits (owned_by img client) m count key ≡ ids_visited img client key count
+    unfolding ids_visited
+    its-visited = rw (reached the_call o e)
 
-  pub tried_front : (r : Report) → front_of (lowest (reading_rows img client)) img ≡ Err r → Tried (Err r)
-  tried_front r e = rw (by_rows (n_of img) refl) (in_front (reading_rows img client) (asked (n_of img)) last img _ r e)
+    pub tried_found : (r : Report)
+        → ok_or (visited_of img key (visits (owned_by img client) m count key)) Damaged ≡ Err r → Tried the_call (Err r)
+    tried_found r f =
+        let g = told_bad img key (ids_visited img client key count) r (rw its-visited at f) in
+        rw g.1 (tried_damaged the_call o z (rw g.0))
 
-  pub below : (n : ℕ) → Clear (asked n) → key < n
-  below n z = (fit n key count (length ids) [] (clears (asked n) z)).below
+    pub tried_visited : (visited : ℕ)
+        → ok_or (visited_of img key (visits (owned_by img client) m count key)) Damaged ≡ Ok visited
+        → Tried the_call (Ok (record { n = t.n; from = key; visited = visited }))
+    tried_visited visited f =
+        let g = told-good img key (ids_visited img client key count) visited (rw its-visited at f) in
+        tried_well the_call o z g.1 (rw g.0)
 
-  module _ (t : Trailer) (o : front_of (lowest (reading_rows img client)) img ≡ Ok t) where
-    its : n_of img ≡ t.n
-    its = ap (λ (x : Trailer). x.n) (told_ok (lowest (reading_rows img client)) (trailer_in img) t o).1
+  pub refuses : (t : Tariff) (r : Report) → Tried the_call (Err r)
+      → GetIdsPromise t img client key count ids (record { receipt = refusal t r; key = key; entries = 0 }) ids
+  unfolding get_ids_answer get_ids_buffer
+  refuses t r e = let w = refused the_call e in record { answer = rw (w.0, w.1); given = rw (w.0, w.1) }
 
-    pub tried_asked : (r : Report) → answered (lowest (asked t.n)) (tt {0}) ≡ Err r → Tried (Err r)
-    tried_asked r e = rw (by_rows t.n its)
-        (by-numbers (reading_rows img client) (asked t.n) last img (reading_rising img client) t o _ r e)
-
-    module _ (z : Clear (asked t.n)) (m : ℕ) (e : m ≡ reach t.n key) where
-      after : get_ids_report img client key count ids ≡ lowest last
-      unfolding rising
-      after = by_rows t.n its ∙ by-headers (reading_rows img client) (asked t.n) last img
-          (reading_rising img client) t o refl z
-
-      its-visited : visits (owned_by img client) m count key ≡ ids_visited img client key count
-      unfolding ids_visited
-      its-visited = rw (e, its)
-
-      pub tried_damaged : (r : Report)
-          → ok_or (visited_of img key (visits (owned_by img client) m count key)) Damaged ≡ Err r → Tried (Err r)
-      unfolding lowest answered
-      tried_damaged r f =
-          let g = told_bad img key (ids_visited img client key count) r (rw its-visited at f) in
-          sym (rw (after, g.0, g.1))
-
-      pub tried_well : (visited : ℕ)
-          → ok_or (visited_of img key (visits (owned_by img client) m count key)) Damaged ≡ Ok visited
-          → Tried (Ok (record { n = t.n; from = key; visited = visited }))
-      unfolding lowest answered
-      tried_well visited f =
-          let g = told-good img key (ids_visited img client key count) visited (rw its-visited at f) in
-          sym (rw (after, g.0, g.1, its))
-
-  -- ---- the answers
-
-  module _ (t : Tariff) where
-    pub refuses : (r : Report) → Tried (Err r)
-        → GetIdsPromise t img client key count ids (record { receipt = refusal t r; key = key; entries = 0 }) ids
-    unfolding get_ids_answer get_ids_buffer
-    refuses r e =
-        let w = told_err (get_ids_report img client key count ids) _ r (sym e) in
-        let f : succeeds r ≡ false = rw w.1 at w.0 in
-        record { answer = rw (w.1, f); given = rw (w.1, f) }
-
-  module _ (s : Span) (e : Tried (Ok s)) where
-    let_through : succeeds (get_ids_report img client key count ids) ≡ true
-    let_through = (told_ok (get_ids_report img client key count ids) _ s (sym e)).0
-
-    its_span : span img key (ids_visited img client key count) ≡ s
-    its_span = (told_ok (get_ids_report img client key count ids) _ s (sym e)).1
-
+  module _ (s : Span) (e : Tried the_call (Ok s)) where
     pub room_for : Laid img s.n × (s.from + s.visited ≤ s.n)
         × (length (picked (owned_by img client) s.from s.visited) ≤ 64)
         × (8 * length (picked (owned_by img client) s.from s.visited) ≤ length ids)
     unfolding get_ids_report get_ids_rows ids_visited
     room_for =
-        let a = clear _ _ (omega arith) let_through in
+        let a = clear _ _ (omega arith) (let_through the_call e) in
         let b = clear _ _ (omega arith) a.1 in
         let f = fit (n_of img) key count (length ids) last b.1 in
         let p = owned_by img client in
         let m = reach (n_of img) key in
-        rw (← its_span) (
+        rw (← its_span the_call e) (
           (known img (n_of img) (clock_of img) (not-false (trailer_right img) a.0) refl refl).laid,
           omega (arith, visits-le p m count key),
           omega (arith, picked-le p m count key),
@@ -192,4 +178,6 @@ module _ (img : List ℕ) (client key count : ℕ) (ids : List ℕ) where
         → GetIdsPromise t img client key count ids a ids'
     unfolding get_ids_answer get_ids_buffer ids_named
     lists t a ids' p q =
-        record { answer = rw let_through (p ∙ rw (← its_span)); given = rw let_through (q ∙ rw (← its_span)) }
+        let w = let_through the_call e in
+        let l = its_span the_call e in
+        record { answer = rw w (p ∙ rw (← l)); given = rw w (q ∙ rw (← l)) }

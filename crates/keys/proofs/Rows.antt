@@ -1,20 +1,26 @@
--- The rows of a key call in three groups: those in front, those that numbers decide, and the row of the headers
--- visited.
+-- The tests of a key call: its rows stand in three groups, those in front, those that numbers decide, and the row of
+-- the headers visited. And what the tests answer in each case.
 -- Assumes nothing.
 use Prim.Native.Nat.{ℕ}
-use mathlib.Core.Path.{◌≡◌, sym, ◌∙◌}
-use mathlib.Core.Bool.{true}
-use mathlib.Core.List.{List, ◌++◌}
+use mathlib.Core.Path.{◌≡◌, refl, sym, ◌∙◌, ap}
+use mathlib.Core.Bool.{Bool, true, false}
+use mathlib.Core.List.{List, [], ◌∷◌, ◌++◌}
 use native.Mathlib.Omega.{arith}
-use Rattle.std.specs.Prelude.{Ok, Err}
+use Rattle.std.specs.Prelude.{Result, Ok, Err}
 use Rattle.kinds.specs.declared.Report.{Report}
-use Rattle.promise.specs.Refusals.{Row, lowest, succeeds}
+use Rattle.kinds.specs.declared.Report.TheVariants.{Damaged}
+use Rattle.run.specs.Run as Run
+use Rattle.promise.specs.Trailer.{n_of}
+use Rattle.promise.specs.Keys.{reach}
+use Rattle.promise.specs.Refusals.{Row, row, lowest, succeeds}
 use Rattle.promise.proofs.RefusalLaws.{rising}
 use Rattle.promise.proofs.RowLaws.{stopped, passed}
 use Rattle.image.specs.Image.{trailer_in}
 use Rattle.image.specs.declared.trailer.Trailer.{Trailer}
 use Rattle.front.specs.Rows.{front_of, answered}
 use Rattle.front.proofs.Fronts.{told_err, told_ok}
+use Rattle.keys.specs.Asked.{manager_rows, span}
+use Rattle.keys.specs.declared.visit.Span.{Span}
 
 -- tests that refuse nothing
 abbrev pub Clear : List Row → Type 0
@@ -23,24 +29,78 @@ Clear rows = answered (lowest rows) (tt {0}) ≡ Ok (tt {0})
 pub clears : (rows : List Row) → Clear rows → succeeds (lowest rows) ≡ true
 clears rows z = (told_ok (lowest rows) (tt {0}) (tt {0}) z).0
 
-module _ (fs ns ls : List Row) (img : List ℕ) where
-  pub in_front : {A : Type 0} (a : A) (r : Report) → front_of (lowest fs) img ≡ Err r
-      → Err r ≡ answered (lowest (fs ++ (ns ++ ls))) a
+pub manager_rising : (n client key : ℕ) (small : Bool) → rising 1 (manager_rows n client key small) ≡ true
+unfolding rising
+manager_rising n client key small = refl
+
+-- a call on an image from a key: its rows, the number of headers that it visits, and its report
+pub record Call : Type 0 where
+  pub img : List ℕ
+  pub key : ℕ
+  pub front : List Row
+  pub asked : (n : ℕ) → List Row
+  pub damaged : Bool
+  pub visited : ℕ
+  pub report : Report
+  pub by_rows : (n : ℕ) → n_of img ≡ n → report ≡ lowest (front ++ (asked n ++ (row damaged Damaged ∷ [])))
+  pub front_rising : rising 1 front ≡ true
+  pub asked_rising : (n : ℕ) → rising 1 (asked n) ≡ true
+
+module _ (c : Call) where
+  abbrev last : List Row
+  last = row c.damaged Damaged ∷ []
+
+  abbrev pub Tried : Result Span Report → Type 0
+  Tried r = r ≡ answered c.report (span c.img c.key c.visited)
+
+  -- ---- the tests, one after the other
+
+  pub tried_front : (r : Report) → front_of (lowest c.front) c.img ≡ Err r → Tried (Err r)
   unfolding answered
-  in_front a r e =
-      let w = told_err (lowest fs) (trailer_in img) r e in
-      sym (rw (stopped fs (ns ++ ls) w.0 ∙ w.1, rw w.1 at w.0))
+  tried_front r e =
+      let n = n_of c.img in
+      let w = told_err (lowest c.front) (trailer_in c.img) r e in
+      sym (rw (c.by_rows n refl ∙ stopped c.front (c.asked n ++ last) w.0 ∙ w.1, rw w.1 at w.0))
 
-  module _ (up : rising 1 fs ≡ true) (t : Trailer) (o : front_of (lowest fs) img ≡ Ok t) where
-    behind : lowest (fs ++ (ns ++ ls)) ≡ lowest (ns ++ ls)
-    behind = passed 1 fs (ns ++ ls) (omega arith) up (told_ok (lowest fs) (trailer_in img) t o).0
+  module _ {t : Trailer} (o : front_of (lowest c.front) c.img ≡ Ok t) where
+    its : n_of c.img ≡ t.n
+    its = ap (λ (x : Trailer). x.n) (told_ok (lowest c.front) (trailer_in c.img) t o).1
 
-    pub by-numbers : {A : Type 0} (a : A) (r : Report) → answered (lowest ns) (tt {0}) ≡ Err r
-        → Err r ≡ answered (lowest (fs ++ (ns ++ ls))) a
+    behind : c.report ≡ lowest (c.asked t.n ++ last)
+    behind = c.by_rows t.n its
+        ∙ passed 1 c.front (c.asked t.n ++ last) (omega arith) c.front_rising
+        (told_ok (lowest c.front) (trailer_in c.img) t o).0
+
+    pub reached : {m : ℕ} → m ≡ Run.reach t.n c.key → m ≡ reach c.img c.key
+    reached e = rw its e
+
+    pub tried_asked : (r : Report) → answered (lowest (c.asked t.n)) (tt {0}) ≡ Err r → Tried (Err r)
     unfolding answered
-    by-numbers a r e =
-        let w = told_err (lowest ns) (tt {0}) r e in
-        sym (rw (behind ∙ stopped ns ls w.0 ∙ w.1, rw w.1 at w.0))
+    tried_asked r e =
+        let w = told_err (lowest (c.asked t.n)) (tt {0}) r e in
+        sym (rw (behind ∙ stopped (c.asked t.n) last w.0 ∙ w.1, rw w.1 at w.0))
 
-    pub by-headers : rising 1 ns ≡ true → Clear ns → lowest (fs ++ (ns ++ ls)) ≡ lowest ls
-    by-headers u z = behind ∙ passed 1 ns ls (omega arith) u (clears ns z)
+    module _ (z : Clear (c.asked t.n)) where
+      after : c.report ≡ lowest last
+      after = behind ∙ passed 1 (c.asked t.n) last (omega arith) (c.asked_rising t.n) (clears (c.asked t.n) z)
+
+      pub tried_damaged : c.damaged ≡ true → Tried (Err Damaged)
+      unfolding lowest answered
+      tried_damaged d = sym (rw (after, d))
+
+      pub tried_well : {m : ℕ} → m ≡ c.visited → c.damaged ≡ false
+          → Tried (Ok (record { n = t.n; from = c.key; visited = m }))
+      unfolding lowest answered
+      tried_well e d = sym (rw (after, d, e, its))
+
+  -- ---- what the answer tells
+
+  pub refused : {r : Report} → Tried (Err r) → (c.report ≡ r) × (succeeds r ≡ false)
+  refused {r = r} e = let w = told_err c.report _ r (sym e) in (w.1, rw w.1 at w.0)
+
+  module _ {s : Span} (e : Tried (Ok s)) where
+    pub let_through : succeeds c.report ≡ true
+    let_through = (told_ok c.report _ s (sym e)).0
+
+    pub its_span : span c.img c.key c.visited ≡ s
+    its_span = (told_ok c.report _ s (sym e)).1

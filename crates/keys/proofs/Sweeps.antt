@@ -5,7 +5,7 @@ use mathlib.Core.Path.{◌≡◌, refl, sym, ap, ◌∙◌}
 use mathlib.Core.Bool.{Bool, true, false, not}
 use mathlib.Core.List.{List, [], ◌∷◌, ◌++◌, map}
 use native.Mathlib.Omega.{arith}
-use borrow.Author.Tests.{not-true, not-false, leb-false}
+use borrow.Author.Tests.{not-false, leb-false}
 use lib.Dec.{leb}
 use lib.ListN.{length, get_or}
 use Rattle.plain.specs.Tests.{neither}
@@ -23,19 +23,17 @@ use Rattle.promise.specs.Trailer.{n_of, clock_of, trailer_right, clock_set}
 use Rattle.promise.specs.Header.{header_of, owner_of}
 use Rattle.promise.proofs.ScavengeLaws.{free_in_turn}
 use Rattle.promise.specs.Counts.{count_of}
-use Rattle.promise.specs.Refusals.{Row, row, lowest, succeeds, receipt, refusal}
-use Rattle.promise.proofs.RefusalLaws.{rising}
+use Rattle.promise.specs.Refusals.{Row, row, lowest, receipt, refusal}
 use Rattle.promise.specs.Keys.{reach, key_at, visited_good}
 use Rattle.promise.specs.Scavenge.{expired, gone, gone_of, scavenge_damaged, scavenge_rows, scavenge_report}
 use Rattle.promise.specs.Scavenge.{scavenged, scavenge_image, scavenge_answer, ScavengePromise, count_lowered}
-use Rattle.front.specs.Rows.{reading_rows, time_rows, changing_rows, front_of, answered}
-use Rattle.image.specs.declared.trailer.Trailer.{Trailer}
-use Rattle.front.proofs.Fronts.{told_err, told_ok, changing_rising, no_expiry}
+use Rattle.front.specs.Rows.{reading_rows, time_rows, changing_rows}
+use Rattle.front.proofs.Fronts.{changing_rising, no_expiry}
 use Rattle.keys.specs.Marks.{loses, marked, has_count, freed, removed_by, Marks, Tallies, Lost}
-use Rattle.keys.specs.Asked.{manager_rows, span}
+use Rattle.keys.specs.Asked.{manager_rows}
 use Rattle.keys.specs.declared.visit.Span.{Span}
-use Rattle.keys.proofs.Rows.{in_front, by-numbers, by-headers, Clear}
-use Rattle.std.specs.Prelude.{Result, Ok, Err}
+use Rattle.keys.proofs.Rows.{manager_rising, Call, Tried, refused, let_through, its_span}
+use Rattle.std.specs.Prelude.{Ok, Err}
 use Rattle.image.proofs.Checks.{known}
 use Rattle.promise.proofs.RowLaws.{clear}
 use Rattle.keys.proofs.Marks.{marked_is, owner_below}
@@ -44,7 +42,7 @@ use Rattle.word.specs.Word.{Bytes, bytes_of}
 use Rattle.word.proofs.Laws.{sizes, length_over}
 use Rattle.promise.proofs.TrailerLaws.{Number}
 use Rattle.promise.specs.Layout.{size_of, trailer_at}
-use Rattle.image.specs.Image.{trailer_in, Laid}
+use Rattle.image.specs.Image.{Laid}
 
 -- ---- runs
 
@@ -154,66 +152,34 @@ module _ (img : List ℕ) (client key time : ℕ) where
   abbrev last : List Row
   last = row (scavenge_damaged img key time) Damaged ∷ []
 
-  by_rows : (n : ℕ) → n_of img ≡ n → scavenge_report img client key time ≡ lowest (before ++ (asked n ++ last))
+  pub by_rows : (n : ℕ) → n_of img ≡ n → scavenge_report img client key time ≡ lowest (before ++ (asked n ++ last))
   unfolding scavenge_report scavenge_rows changing_rows reading_rows time_rows lowest
   by_rows n k = rw (no_expiry time, k)
 
-  abbrev pub Tried : Result Span Report → Type 0
-  Tried r = r ≡ answered (scavenge_report img client key time) (span img key (reach img key))
+  abbrev pub the_call : Call
+  the_call = record {
+    img = img;
+    key = key;
+    front = before;
+    asked = asked;
+    damaged = scavenge_damaged img key time;
+    visited = reach img key;
+    report = scavenge_report img client key time;
+    by_rows = by_rows;
+    front_rising = changing_rising img client 0 time;
+    asked_rising = λ n. manager_rising n client key false;
+  }
 
-  -- ---- the tests, one after the other
+  pub refuses : (t : Tariff) (r : Report) → Tried the_call (Err r)
+      → ScavengePromise t img client key time (record { receipt = refusal t r; key = key; count = 0 }) img
+  unfolding scavenge_answer scavenge_image
+  refuses t r e = let w = refused the_call e in record { answer = rw (w.0, w.1); image = rw (w.0, w.1) }
 
-  pub tried_front : (r : Report) → front_of (lowest before) img ≡ Err r → Tried (Err r)
-  tried_front r e = rw (by_rows (n_of img) refl) (in_front before (asked (n_of img)) last img _ r e)
-
-  module _ (t : Trailer) (o : front_of (lowest before) img ≡ Ok t) where
-    its : n_of img ≡ t.n
-    its = ap (λ (x : Trailer). x.n) (told_ok (lowest before) (trailer_in img) t o).1
-
-    pub tried_asked : (r : Report) → answered (lowest (asked t.n)) (tt {0}) ≡ Err r → Tried (Err r)
-    tried_asked r e = rw (by_rows t.n its)
-        (by-numbers before (asked t.n) last img (changing_rising img client 0 time) t o _ r e)
-
-    module _ (z : Clear (asked t.n)) (m : ℕ) (e : m ≡ Run.reach t.n key) where
-      after : scavenge_report img client key time ≡ lowest last
-      unfolding rising
-      after = by_rows t.n its ∙ by-headers before (asked t.n) last img
-          (changing_rising img client 0 time) t o refl z
-
-      pub visited-reach : m ≡ reach img key
-      visited-reach = rw its e
-
-      pub tried_damaged : not (scavenge_damaged img key time) ≡ false → Tried (Err Damaged)
-      unfolding lowest answered
-      tried_damaged d = sym (rw (after, not-false (scavenge_damaged img key time) d))
-
-      pub tried_well : not (scavenge_damaged img key time) ≡ true
-          → Tried (Ok (record { n = t.n; from = key; visited = m }))
-      unfolding lowest answered
-      tried_well d = sym (rw (after, not-true (scavenge_damaged img key time) d, visited-reach, its))
-
-  -- ---- the answers
-
-  module _ (t : Tariff) where
-    pub refuses : (r : Report) → Tried (Err r)
-        → ScavengePromise t img client key time (record { receipt = refusal t r; key = key; count = 0 }) img
-    unfolding scavenge_answer scavenge_image
-    refuses r e =
-        let w = told_err (scavenge_report img client key time) _ r (sym e) in
-        let f : succeeds r ≡ false = rw w.1 at w.0 in
-        record { answer = rw (w.1, f); image = rw (w.1, f) }
-
-  module _ (s : Span) (e : Tried (Ok s)) where
-    let_through : succeeds (scavenge_report img client key time) ≡ true
-    let_through = (told_ok (scavenge_report img client key time) _ s (sym e)).0
-
-    pub its_span : span img key (reach img key) ≡ s
-    its_span = (told_ok (scavenge_report img client key time) _ s (sym e)).1
-
+  module _ (s : Span) (e : Tried the_call (Ok s)) where
     its_laid : Laid img (n_of img) × (key < n_of img) × (scavenge_damaged img key time ≡ false)
     unfolding scavenge_report scavenge_rows
     its_laid =
-        let a = clear _ _ (omega arith) let_through in
+        let a = clear _ _ (omega arith) (let_through the_call e) in
         let b = clear _ _ (omega arith) a.1 in
         let c = clear _ _ (omega arith) b.1 in
         let d = clear _ _ (omega arith) c.1 in
@@ -230,7 +196,7 @@ module _ (img : List ℕ) (client key time : ℕ) where
         × Lost img time s.from s.visited marks tally
     room_for marks tally lost =
         let k = its_laid.1 in
-        rw (← its_span) (its_laid.0, omega arith, omega arith, lost)
+        rw (← its_span the_call e) (its_laid.0, omega arith, omega arith, lost)
 
     pub sweeps : (t : Tariff) (marks : List Bool) (tally : List ℕ)
         → Lost img time key (reach img key) marks tally → Bytes img
@@ -248,8 +214,8 @@ module _ (img : List ℕ) (client key time : ℕ) where
         let g = well img key time its_laid.2 in
         let m = reach img key in
         record {
-          answer = rw let_through (p ∙ rw (← its_span)
+          answer = rw (let_through the_call e) (p ∙ rw (← its_span the_call e)
               (rw (gone-is img time key m g (n_of img) refl refl marks f)));
-          image = rw let_through (q ∙ rw (← its_span)
+          image = rw (let_through the_call e) (q ∙ rw (← its_span the_call e)
               (removed-is img time key m g (n_of img) refl refl l.number l.size b marks f tally y));
         }

@@ -1,15 +1,17 @@
 -- `keys::scavenge::tried` meets its contract: each return is an outcome of the tests.
 use mathlib.Core.Path.{sym, ◌∙◌}
 use native.Mathlib.Omega.{arith}
+use borrow.Author.Tests.{not-true, not-false}
 use Rattle.front.proofs.Fronts.{rethrown, changing_known}
 use Rattle.keys.proofs.Entries.{below}
-use Rattle.keys.proofs.Sweeps.{tried_front, tried_asked, tried_damaged, tried_well, visited-reach}
+use Rattle.keys.proofs.Rows.{tried_front, tried_asked, reached, tried_damaged, tried_well}
+use Rattle.keys.proofs.Sweeps.{the_call}
 use Rattle.keys.proofs.scavenge.tried.Goals as goal
 
 pub returns-in_err-n : goal.returns-in_err-n
 returns-in_err-n c =
     let e = rethrown c.from_residual.result c.in_err-n.field-0.0 c.from_residual.ensures.1 in record {
-      report = e ∙ tried_front _ _ _ _ _ (sym c.changing.ensures ∙ c.in_err-n.was);
+      report = e ∙ tried_front (the_call _ _ _ _) _ (sym c.changing.ensures ∙ c.in_err-n.was);
       losses = rw e tt;
     }
 
@@ -17,7 +19,7 @@ pub returns-in_err-managed : goal.returns-in_err-managed
 returns-in_err-managed c =
     let r = c.in_err-managed.field-0.0 in
     let e = rethrown c.from_residual-in_err-managed.result r c.from_residual-in_err-managed.ensures.1 in record {
-      report = e ∙ tried_asked _ _ _ _ _ (sym c.changing.ensures ∙ c.in_ok-n.was) r (sym c.managed.ensures
+      report = e ∙ tried_asked (the_call _ _ _ _) (sym c.changing.ensures ∙ c.in_ok-n.was) r (sym c.managed.ensures
           ∙ c.in_err-managed.was);
       losses = rw e tt;
     }
@@ -37,19 +39,21 @@ decide-requires c =
 
 pub returns-then-not-decide : goal.returns-then-not-decide
 returns-then-not-decide c = record {
-  report = tried_damaged _ _ _ _ _ (sym c.changing.ensures ∙ c.in_ok-n.was) (sym c.managed.ensures
-      ∙ c.in_ok-managed.was) _ c.reach-visited.ensures (sym c.decide.ensures.answer ∙ c.if-not-decide.true);
+  report = tried_damaged (the_call _ _ _ _) (sym c.changing.ensures ∙ c.in_ok-n.was)
+      (sym c.managed.ensures ∙ c.in_ok-managed.was)
+      (not-false _ (sym c.decide.ensures.answer ∙ c.if-not-decide.true));
   losses = tt;
 }
 
 pub returns : goal.returns
 returns c =
     let a = c.args in
+    let call = the_call a.img.now a.client.0 a.key a.time.0 in
     let o = sym c.changing.ensures ∙ c.in_ok-n.was in
-    let z = sym c.managed.ensures ∙ c.in_ok-managed.was in
     let well = c.if-not-decide.false in
-    let k = visited-reach a.img.now a.client.0 a.key a.time.0 _ o z _ c.reach-visited.ensures in record {
-      report = tried_well _ _ _ _ _ o z _ c.reach-visited.ensures (sym c.decide.ensures.answer ∙ well);
+    let k = reached call o c.reach-visited.ensures in record {
+      report = tried_well call o (sym c.managed.ensures ∙ c.in_ok-managed.was) k
+          (not-true _ (sym c.decide.ensures.answer ∙ well));
       losses = rw k at (c.decide.ensures.losses well);
     }
 
