@@ -3,9 +3,9 @@
 use Prim.Native.Nat.{ℕ, ◌+◌, ◌*◌, ◌≤◌, ◌<◌}
 use mathlib.Core.Path.{◌≡◌, refl, sym, ◌∙◌}
 use mathlib.Core.Bool.{Bool, true, false, not}
-use mathlib.Core.List.{List, [], ◌∷◌, ◌++◌}
+use mathlib.Core.List.{List, [], ◌++◌}
 use native.Mathlib.Omega.{arith}
-use borrow.Author.Tests.{leb-false, ltb-false, not-false}
+use borrow.Author.Tests.{leb-false, ltb-false}
 use lib.Dec.{ltb}
 use lib.ListN.{length}
 use Rattle.std.specs.Prelude.{Ok, Err}
@@ -17,25 +17,25 @@ use Rattle.run.proofs.Laws.{one_yes, one_no}
 use Rattle.run.proofs.Turns.{row-yes, row-no}
 use Rattle.kinds.specs.declared.ProfileAnswer.{ProfileAnswer}
 use Rattle.kinds.specs.declared.Report.{Report}
-use Rattle.kinds.specs.declared.Report.TheVariants.{Success, Damaged}
+use Rattle.kinds.specs.declared.Report.TheVariants.{Success}
 use Rattle.tariff.specs.Charges.{profile_charge}
 use Rattle.tariff.specs.declared.Tariff.{Tariff}
-use Rattle.promise.specs.Trailer.{n_of, clock_of, trailer_right}
+use Rattle.promise.specs.Trailer.{n_of}
 use Rattle.promise.specs.Header.{header_of, is_used}
-use Rattle.promise.specs.Refusals.{Row, row, lowest, succeeds, receipt, refusal}
+use Rattle.promise.specs.Refusals.{Row, lowest, receipt, refusal}
 use Rattle.promise.proofs.RowLaws.{clear}
 use Rattle.promise.specs.Keys.{reach, key_at, visited_good}
 use Rattle.promise.specs.Profile.{profiled, profile_row, profile_rows, profile_report, profile_answer, profile_buffer}
 use Rattle.promise.specs.Profile.{ProfilePromise}
-use Rattle.image.specs.Image.{Laid}
-use Rattle.image.proofs.Checks.{known}
+use Rattle.image.specs.Image.{trailer_in, Laid}
 use Rattle.image.proofs.Pieces.{next}
 use Rattle.front.specs.Rows.{reading_rows}
-use Rattle.front.proofs.Fronts.{reading_rising}
+use Rattle.front.proofs.Fronts.{reading_rising, reading_known}
 use Rattle.keys.specs.Visit.{used, entry_of}
 use Rattle.keys.specs.Asked.{manager_rows}
 use Rattle.keys.specs.declared.visit.Span.{Span}
-use Rattle.keys.proofs.Rows.{Clear, clears, manager_rising, Call, Tried, refused, let_through, its_span}
+use Rattle.keys.proofs.Rows.{Clear, clears, in_groups, manager_rising, Call, Tried, refused}
+use Rattle.keys.proofs.Rows.{let_through, its_span, front_passes, asked_passes}
 
 -- an entry has 24 bytes
 pub length-profile_row : (img : List ℕ) (b : ℕ) → length (profile_row img b) ≡ 24
@@ -52,17 +52,12 @@ entry-written l at owner created expires h =
 
 -- ---- where the numbers refuse nothing
 
-pub fit : (n client key : ℕ) (small : Bool) (ws : List Row)
-    → succeeds (lowest (manager_rows n client key small ++ ws)) ≡ true
-    → (key < n) × (small ≡ false) × (succeeds (lowest ws) ≡ true)
-fit n client key small ws z =
-    let a = clear _ _ (omega arith) z in
+pub fit : (n client key : ℕ) (small : Bool) → Clear (manager_rows n client key small) → (key < n) × (small ≡ false)
+fit n client key small z =
+    let a = clear _ _ (omega arith) (clears (manager_rows n client key small) z) in
     let b = clear _ _ (omega arith) a.1 in
-    let c = clear _ ws (omega arith) b.1 in
-    (leb-false n key b.0, c.0, c.1)
-
-pub below : (n client key : ℕ) (small : Bool) → Clear (manager_rows n client key small) → key < n
-below n client key small z = (fit n client key small [] (clears (manager_rows n client key small) z)).0
+    let c = clear _ [] (omega arith) b.1 in
+    (leb-false n key b.0, c.0)
 
 -- ---- one block
 
@@ -95,11 +90,11 @@ module _ (img : List ℕ) (client key : ℕ) (buffer : List ℕ) where
   abbrev asked : ℕ → List Row
   asked n = manager_rows n client key (ltb (length buffer) 1536)
 
-  abbrev last : List Row
-  last = row (not (visited_good img key (reach img key))) Damaged ∷ []
+  abbrev damaged : Bool
+  damaged = not (visited_good img key (reach img key))
 
   pub by_rows : (n : ℕ) → n_of img ≡ n
-      → profile_report img client key buffer ≡ lowest (reading_rows img client ++ (asked n ++ last))
+      → profile_report img client key buffer ≡ lowest (in_groups (reading_rows img client) (asked n) damaged)
   unfolding profile_report profile_rows reading_rows
   by_rows n k = rw k
 
@@ -109,7 +104,7 @@ module _ (img : List ℕ) (client key : ℕ) (buffer : List ℕ) where
     key = key;
     front = reading_rows img client;
     asked = asked;
-    damaged = not (visited_good img key (reach img key));
+    damaged = damaged;
     visited = reach img key;
     report = profile_report img client key buffer;
     by_rows = by_rows;
@@ -124,13 +119,10 @@ module _ (img : List ℕ) (client key : ℕ) (buffer : List ℕ) where
 
   module _ (s : Span) (e : Tried the_call (Ok s)) where
     pub room_for : Laid img s.n × (s.from + s.visited ≤ s.n) × (s.visited ≤ 64) × (1536 ≤ length buffer)
-    unfolding profile_report profile_rows
     room_for =
-        let a = clear _ _ (omega arith) (let_through the_call e) in
-        let b = clear _ _ (omega arith) a.1 in
-        let f = fit (n_of img) client key (ltb (length buffer) 1536) last b.1 in
+        let f = fit (n_of img) client key (ltb (length buffer) 1536) (asked_passes the_call e) in
         rw (← its_span the_call e) (
-          (known img (n_of img) (clock_of img) (not-false (trailer_right img) a.0) refl refl).laid,
+          (reading_known img client (trailer_in img) (front_passes the_call e)).laid,
           omega arith,
           omega arith,
           ltb-false (length buffer) 1536 f.1,

@@ -2,10 +2,10 @@
 -- Assumes nothing.
 use Prim.Native.Nat.{ℕ, ◌+◌, ◌*◌, ◌≤◌, ◌<◌}
 use mathlib.Core.Path.{◌≡◌, refl, sym, ◌∙◌}
-use mathlib.Core.Bool.{true, false, not}
-use mathlib.Core.List.{List, [], ◌∷◌, ◌++◌}
+use mathlib.Core.Bool.{Bool, true, false, not}
+use mathlib.Core.List.{List, []}
 use native.Mathlib.Omega.{arith}
-use borrow.Author.Tests.{leb-false, ltb-false, not-false}
+use borrow.Author.Tests.{leb-false, ltb-false}
 use lib.ListN.{length}
 use Rattle.std.specs.Prelude.{Ok, Err, ok_or}
 use Rattle.word.specs.Word.{bytes_of}
@@ -20,26 +20,25 @@ use Rattle.kinds.specs.declared.Report.{Report}
 use Rattle.kinds.specs.declared.Report.TheVariants.{Success, Damaged}
 use Rattle.tariff.specs.Charges.{get_ids_charge}
 use Rattle.tariff.specs.declared.Tariff.{Tariff}
-use Rattle.promise.specs.Trailer.{n_of, clock_of, trailer_right}
+use Rattle.promise.specs.Trailer.{n_of}
 use Rattle.promise.specs.Header.{header_of, id_in}
 use Rattle.promise.specs.Counts.{owned_by}
-use Rattle.promise.specs.Refusals.{Row, row, lowest, succeeds, receipt, refusal}
+use Rattle.promise.specs.Refusals.{Row, lowest, receipt, refusal}
 use Rattle.promise.proofs.RefusalLaws.{rising}
 use Rattle.promise.proofs.RowLaws.{clear, count_fits}
 use Rattle.promise.specs.Keys.{key_at, visited_good}
 use Rattle.promise.specs.GetIds.{ids_visited, ids_named, id_row, get_ids_rows, get_ids_report, get_ids_answer}
 use Rattle.promise.specs.GetIds.{get_ids_buffer}
 use Rattle.promise.specs.GetIds.{GetIdsPromise}
-use Rattle.image.specs.Image.{Laid}
-use Rattle.image.proofs.Checks.{known}
+use Rattle.image.specs.Image.{trailer_in, Laid}
 use Rattle.front.specs.Rows.{reading_rows, front_of}
 use Rattle.image.specs.declared.trailer.Trailer.{Trailer}
-use Rattle.front.proofs.Fronts.{reading_rising}
+use Rattle.front.proofs.Fronts.{reading_rising, reading_known}
 use Rattle.keys.specs.Visit.{visited_of}
 use Rattle.keys.specs.Asked.{ids_rows}
 use Rattle.keys.specs.declared.visit.Span.{Span}
-use Rattle.keys.proofs.Rows.{Clear, clears, Call, Tried, reached, tried_damaged, tried_well}
-use Rattle.keys.proofs.Rows.{refused, let_through, its_span}
+use Rattle.keys.proofs.Rows.{Clear, clears, in_groups, Call, Tried, reached, tried_damaged, tried_well}
+use Rattle.keys.proofs.Rows.{refused, let_through, its_span, front_passes, asked_passes}
 use Rattle.keys.proofs.Visits.{told_bad, told-good}
 
 -- an entry has 8 bytes
@@ -55,12 +54,11 @@ pub record Fits (n key count room : ℕ) : Type 0 where
   pub few : count ≤ 64
   pub fits : 8 * count ≤ room
 
-pub fit : (n key count room : ℕ) (ws : List Row) → succeeds (lowest (ids_rows n key count room ++ ws)) ≡ true
-    → Fits n key count room
-fit n key count room ws z =
-    let a = clear _ _ (omega arith) z in
+pub fit : (n key count room : ℕ) → Clear (ids_rows n key count room) → Fits n key count room
+fit n key count room z =
+    let a = clear _ _ (omega arith) (clears (ids_rows n key count room) z) in
     let b = clear _ _ (omega arith) a.1 in
-    let c = clear _ ws (omega arith) b.1 in
+    let c = clear _ [] (omega arith) b.1 in
     let k = count_fits count b.0 in
     record {
       below = leb-false n key a.0;
@@ -68,9 +66,6 @@ fit n key count room ws z =
       few = k.1;
       fits = omega (arith, ltb-false room (8 * count) c.0);
     }
-
-pub below : (n key count room : ℕ) → Clear (ids_rows n key count room) → key < n
-below n key count room z = (fit n key count room [] (clears (ids_rows n key count room) z)).below
 
 -- ---- one block
 
@@ -104,11 +99,11 @@ module _ (img : List ℕ) (client key count : ℕ) (ids : List ℕ) where
   abbrev asked : ℕ → List Row
   asked n = ids_rows n key count (length ids)
 
-  abbrev last : List Row
-  last = row (not (visited_good img key (ids_visited img client key count))) Damaged ∷ []
+  abbrev damaged : Bool
+  damaged = not (visited_good img key (ids_visited img client key count))
 
   pub by_rows : (n : ℕ) → n_of img ≡ n
-      → get_ids_report img client key count ids ≡ lowest (reading_rows img client ++ (asked n ++ last))
+      → get_ids_report img client key count ids ≡ lowest (in_groups (reading_rows img client) (asked n) damaged)
   unfolding get_ids_report get_ids_rows reading_rows
   by_rows n k = rw k
 
@@ -118,7 +113,7 @@ module _ (img : List ℕ) (client key count : ℕ) (ids : List ℕ) where
     key = key;
     front = reading_rows img client;
     asked = asked;
-    damaged = not (visited_good img key (ids_visited img client key count));
+    damaged = damaged;
     visited = ids_visited img client key count;
     report = get_ids_report img client key count ids;
     by_rows = by_rows;
@@ -154,15 +149,13 @@ module _ (img : List ℕ) (client key count : ℕ) (ids : List ℕ) where
     pub room_for : Laid img s.n × (s.from + s.visited ≤ s.n)
         × (length (picked (owned_by img client) s.from s.visited) ≤ 64)
         × (8 * length (picked (owned_by img client) s.from s.visited) ≤ length ids)
-    unfolding get_ids_report get_ids_rows ids_visited
+    unfolding ids_visited
     room_for =
-        let a = clear _ _ (omega arith) (let_through the_call e) in
-        let b = clear _ _ (omega arith) a.1 in
-        let f = fit (n_of img) key count (length ids) last b.1 in
+        let f = fit (n_of img) key count (length ids) (asked_passes the_call e) in
         let p = owned_by img client in
         let m = reach (n_of img) key in
         rw (← its_span the_call e) (
-          (known img (n_of img) (clock_of img) (not-false (trailer_right img) a.0) refl refl).laid,
+          (reading_known img client (trailer_in img) (front_passes the_call e)).laid,
           omega (arith, visits-le p m count key),
           omega (arith, picked-le p m count key),
           omega (arith, picked-le p m count key),

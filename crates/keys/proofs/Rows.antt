@@ -3,7 +3,7 @@
 -- Assumes nothing.
 use Prim.Native.Nat.{ℕ}
 use mathlib.Core.Path.{◌≡◌, refl, sym, ◌∙◌, ap}
-use mathlib.Core.Bool.{Bool, true, false}
+use mathlib.Core.Bool.{Bool, true, false, true≢false}
 use mathlib.Core.List.{List, [], ◌∷◌, ◌++◌}
 use native.Mathlib.Omega.{arith}
 use Rattle.std.specs.Prelude.{Result, Ok, Err}
@@ -14,7 +14,7 @@ use Rattle.promise.specs.Trailer.{n_of}
 use Rattle.promise.specs.Keys.{reach}
 use Rattle.promise.specs.Refusals.{Row, row, lowest, succeeds}
 use Rattle.promise.proofs.RefusalLaws.{rising}
-use Rattle.promise.proofs.RowLaws.{stopped, passed}
+use Rattle.promise.proofs.RowLaws.{stopped, clear, passed}
 use Rattle.image.specs.Image.{trailer_in}
 use Rattle.image.specs.declared.trailer.Trailer.{Trailer}
 use Rattle.front.specs.Rows.{front_of, answered}
@@ -29,9 +29,21 @@ Clear rows = answered (lowest rows) (tt {0}) ≡ Ok (tt {0})
 pub clears : (rows : List Row) → Clear rows → succeeds (lowest rows) ≡ true
 clears rows z = (told_ok (lowest rows) (tt {0}) (tt {0}) z).0
 
+-- where no row of two groups applies, none of the first does
+first_clear : (xs ys : List Row) → succeeds (lowest (xs ++ ys)) ≡ true → succeeds (lowest xs) ≡ true
+first_clear xs ys e = go (succeeds (lowest xs)) refl
+  where
+    go : (t : Bool) → succeeds (lowest xs) ≡ t → succeeds (lowest xs) ≡ true
+    go true q = q
+    go false q = absurd (true≢false (sym e ∙ ap (λ r. succeeds r) (stopped xs ys q) ∙ q))
+
 pub manager_rising : (n client key : ℕ) (small : Bool) → rising 1 (manager_rows n client key small) ≡ true
 unfolding rising
 manager_rising n client key small = refl
+
+-- the rows of a key call, in their groups
+abbrev pub in_groups : (front asked : List Row) (damaged : Bool) → List Row
+in_groups front asked damaged = front ++ (asked ++ (row damaged Damaged ∷ []))
 
 -- a call on an image from a key: its rows, the number of headers that it visits, and its report
 pub record Call : Type 0 where
@@ -42,7 +54,7 @@ pub record Call : Type 0 where
   pub damaged : Bool
   pub visited : ℕ
   pub report : Report
-  pub by_rows : (n : ℕ) → n_of img ≡ n → report ≡ lowest (front ++ (asked n ++ (row damaged Damaged ∷ [])))
+  pub by_rows : (n : ℕ) → n_of img ≡ n → report ≡ lowest (in_groups front (asked n) damaged)
   pub front_rising : rising 1 front ≡ true
   pub asked_rising : (n : ℕ) → rising 1 (asked n) ≡ true
 
@@ -104,3 +116,20 @@ module _ (c : Call) where
 
     pub its_span : span c.img c.key c.visited ≡ s
     its_span = (told_ok c.report _ s (sym e)).1
+
+    from_front : succeeds (lowest (in_groups c.front (c.asked (n_of c.img)) c.damaged)) ≡ true
+    from_front = rw (← c.by_rows (n_of c.img) refl) let_through
+
+    pub front_passes : front_of (lowest c.front) c.img ≡ Ok (trailer_in c.img)
+    unfolding answered
+    front_passes = rw (first_clear c.front (c.asked (n_of c.img) ++ last) from_front)
+
+    from_asked : succeeds (lowest (c.asked (n_of c.img) ++ last)) ≡ true
+    from_asked = rw (← behind front_passes) let_through
+
+    pub asked_passes : Clear (c.asked (n_of c.img))
+    unfolding answered
+    asked_passes = rw (first_clear (c.asked (n_of c.img)) last from_asked)
+
+    pub well : c.damaged ≡ false
+    well = (clear (row c.damaged Damaged) [] (omega arith) (rw (← after front_passes asked_passes) let_through)).0

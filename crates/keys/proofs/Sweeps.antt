@@ -3,9 +3,9 @@
 use Prim.Native.Nat.{ℕ, ◌+◌, ◌≤◌, ◌<◌}
 use mathlib.Core.Path.{◌≡◌, refl, sym, ap, ◌∙◌}
 use mathlib.Core.Bool.{Bool, true, false, not}
-use mathlib.Core.List.{List, [], ◌∷◌, ◌++◌, map}
+use mathlib.Core.List.{List, [], ◌∷◌, map}
 use native.Mathlib.Omega.{arith}
-use borrow.Author.Tests.{not-false, leb-false}
+use borrow.Author.Tests.{not-false}
 use lib.Dec.{leb}
 use lib.ListN.{length, get_or}
 use Rattle.plain.specs.Tests.{neither}
@@ -16,33 +16,33 @@ use Rattle.run.proofs.Laws.{all_same, every_picked}
 use Rattle.run.proofs.Tally.{picked_same, times-picked}
 use Rattle.kinds.specs.declared.ScavengeAnswer.{ScavengeAnswer}
 use Rattle.kinds.specs.declared.Report.{Report}
-use Rattle.kinds.specs.declared.Report.TheVariants.{Success, Damaged}
+use Rattle.kinds.specs.declared.Report.TheVariants.{Success}
 use Rattle.tariff.specs.Charges.{scavenge_charge}
 use Rattle.tariff.specs.declared.Tariff.{Tariff}
-use Rattle.promise.specs.Trailer.{n_of, clock_of, trailer_right, clock_set}
+use Rattle.promise.specs.Trailer.{n_of, clock_set}
 use Rattle.promise.specs.Header.{header_of, owner_of}
 use Rattle.promise.proofs.ScavengeLaws.{free_in_turn}
 use Rattle.promise.specs.Counts.{count_of}
-use Rattle.promise.specs.Refusals.{Row, row, lowest, receipt, refusal}
+use Rattle.promise.specs.Refusals.{Row, lowest, receipt, refusal}
 use Rattle.promise.specs.Keys.{reach, key_at, visited_good}
 use Rattle.promise.specs.Scavenge.{expired, gone, gone_of, scavenge_damaged, scavenge_rows, scavenge_report}
 use Rattle.promise.specs.Scavenge.{scavenged, scavenge_image, scavenge_answer, ScavengePromise, count_lowered}
 use Rattle.front.specs.Rows.{reading_rows, time_rows, changing_rows}
-use Rattle.front.proofs.Fronts.{changing_rising, no_expiry}
+use Rattle.front.proofs.Fronts.{changing_rising, changing_known, no_expiry}
 use Rattle.keys.specs.Marks.{loses, marked, has_count, freed, removed_by, Marks, Tallies, Lost}
 use Rattle.keys.specs.Asked.{manager_rows}
 use Rattle.keys.specs.declared.visit.Span.{Span}
-use Rattle.keys.proofs.Rows.{manager_rising, Call, Tried, refused, let_through, its_span}
+use Rattle.keys.proofs.Entries.{fit}
+use Rattle.keys.proofs.Rows.{in_groups, manager_rising, Call, Tried, refused}
+use Rattle.keys.proofs.Rows.{let_through, its_span, front_passes, asked_passes, well}
 use Rattle.std.specs.Prelude.{Ok, Err}
-use Rattle.image.proofs.Checks.{known}
-use Rattle.promise.proofs.RowLaws.{clear}
 use Rattle.keys.proofs.Marks.{marked_is, owner_below}
 use Rattle.keys.proofs.Lowers.{low, low_agree, lowers, swept}
 use Rattle.word.specs.Word.{Bytes, bytes_of}
 use Rattle.word.proofs.Laws.{sizes, length_over}
 use Rattle.promise.proofs.TrailerLaws.{Number}
 use Rattle.promise.specs.Layout.{size_of, trailer_at}
-use Rattle.image.specs.Image.{Laid}
+use Rattle.image.specs.Image.{trailer_in, Laid}
 
 -- ---- runs
 
@@ -132,10 +132,10 @@ bad_header img time from k n its e g =
     sym (rw v)
 
 -- where nothing is damaged, all visited headers are good
-well : (img : List ℕ) (key time : ℕ) → scavenge_damaged img key time ≡ false
+good_headers : (img : List ℕ) (key time : ℕ) → scavenge_damaged img key time ≡ false
     → visited_good img key (reach img key) ≡ true
 unfolding scavenge_damaged
-well img key time e =
+good_headers img key time e =
     not-false _
     (neither (not (visited_good img key (reach img key)))
     (not (all_of (λ u. leb (gone_of img key time u) (count_of (n_of img) img u)) 0 64)) e).0
@@ -149,10 +149,8 @@ module _ (img : List ℕ) (client key time : ℕ) where
   abbrev asked : ℕ → List Row
   asked n = manager_rows n client key false
 
-  abbrev last : List Row
-  last = row (scavenge_damaged img key time) Damaged ∷ []
-
-  pub by_rows : (n : ℕ) → n_of img ≡ n → scavenge_report img client key time ≡ lowest (before ++ (asked n ++ last))
+  pub by_rows : (n : ℕ) → n_of img ≡ n
+      → scavenge_report img client key time ≡ lowest (in_groups before (asked n) (scavenge_damaged img key time))
   unfolding scavenge_report scavenge_rows changing_rows reading_rows time_rows lowest
   by_rows n k = rw (no_expiry time, k)
 
@@ -176,27 +174,15 @@ module _ (img : List ℕ) (client key time : ℕ) where
   refuses t r e = let w = refused the_call e in record { answer = rw (w.0, w.1); image = rw (w.0, w.1) }
 
   module _ (s : Span) (e : Tried the_call (Ok s)) where
-    its_laid : Laid img (n_of img) × (key < n_of img) × (scavenge_damaged img key time ≡ false)
-    unfolding scavenge_report scavenge_rows
-    its_laid =
-        let a = clear _ _ (omega arith) (let_through the_call e) in
-        let b = clear _ _ (omega arith) a.1 in
-        let c = clear _ _ (omega arith) b.1 in
-        let d = clear _ _ (omega arith) c.1 in
-        let f = clear _ _ (omega arith) d.1 in
-        let g = clear _ _ (omega arith) f.1 in
-        let h = clear _ [] (omega arith) g.1 in (
-          (known img (n_of img) (clock_of img) (not-false (trailer_right img) a.0) refl refl).laid,
-          leb-false (n_of img) key g.0,
-          h.0,
-        )
+    its_laid : Laid img (n_of img)
+    its_laid = (changing_known img client 0 time (trailer_in img) (front_passes the_call e)).laid
 
     pub room_for : (marks : List Bool) (tally : List ℕ) → Lost img time key (reach img key) marks tally
         → Laid img s.n × (s.from + s.visited ≤ s.n) × (s.visited ≤ 64)
         × Lost img time s.from s.visited marks tally
     room_for marks tally lost =
-        let k = its_laid.1 in
-        rw (← its_span the_call e) (its_laid.0, omega arith, omega arith, lost)
+        let f = fit (n_of img) client key false (asked_passes the_call e) in
+        rw (← its_span the_call e) (its_laid, omega arith, omega arith, lost)
 
     pub sweeps : (t : Tariff) (marks : List Bool) (tally : List ℕ)
         → Lost img time key (reach img key) marks tally → Bytes img
@@ -210,8 +196,8 @@ module _ (img : List ℕ) (client key time : ℕ) where
         → ScavengePromise t img client key time a img'
     unfolding scavenge_answer scavenge_image
     sweeps t marks tally (f, y) b a img' p q =
-        let l = its_laid.0 in
-        let g = well img key time its_laid.2 in
+        let l = its_laid in
+        let g = good_headers img key time (well the_call e) in
         let m = reach img key in
         record {
           answer = rw (let_through the_call e) (p ∙ rw (← its_span the_call e)

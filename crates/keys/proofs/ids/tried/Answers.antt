@@ -3,7 +3,7 @@ use mathlib.Core.Path.{sym, ◌∙◌}
 use native.Mathlib.Omega.{arith}
 use Rattle.front.proofs.Fronts.{rethrown, reading_known}
 use Rattle.keys.proofs.Rows.{tried_front, tried_asked}
-use Rattle.keys.proofs.Listing.{below, the_call, tried_found, tried_visited}
+use Rattle.keys.proofs.Listing.{fit, the_call, tried_found, tried_visited}
 use Rattle.keys.proofs.ids.tried.Goals as goal
 
 pub returns-in_err-n : goal.returns-in_err-n
@@ -14,16 +14,17 @@ pub returns-in_err-asked : goal.returns-in_err-asked
 returns-in_err-asked c =
     let r = c.in_err-asked.field-0.0 in
     rethrown c.from_residual-in_err-asked.result r c.from_residual-in_err-asked.ensures.1
-    ∙ tried_asked (the_call _ _ _ _ _) (sym c.reading.ensures ∙ c.in_ok-n.was) r (sym c.asked.ensures ∙ c.in_err-asked.was)
+    ∙ tried_asked (the_call _ _ _ _ _) (sym c.reading.ensures ∙ c.in_ok-n.was)
+    r (sym c.asked.ensures ∙ c.in_err-asked.was)
 
 pub reach-requires : goal.reach-requires
 reach-requires c =
-    let k = below _ _ _ _ (sym c.asked.ensures ∙ c.in_ok-asked.was) in
+    let k = (fit _ _ _ _ (sym c.asked.ensures ∙ c.in_ok-asked.was)).below in
     omega arith
 
 pub visit-found-requires : goal.visit-found-requires
 visit-found-requires c =
-    let k = below _ _ _ _ (sym c.asked.ensures ∙ c.in_ok-asked.was) in
+    let k = (fit _ _ _ _ (sym c.asked.ensures ∙ c.in_ok-asked.was)).below in
     omega (arith, c.reach.ensures)
 
 pub returns-in_err-visited : goal.returns-in_err-visited

@@ -3,7 +3,7 @@ use mathlib.Core.Path.{sym, ◌∙◌}
 use native.Mathlib.Omega.{arith}
 use borrow.Author.Tests.{not-true, not-false}
 use Rattle.front.proofs.Fronts.{rethrown, changing_known}
-use Rattle.keys.proofs.Entries.{below}
+use Rattle.keys.proofs.Entries.{fit}
 use Rattle.keys.proofs.Rows.{tried_front, tried_asked, reached, tried_damaged, tried_well}
 use Rattle.keys.proofs.Sweeps.{the_call}
 use Rattle.keys.proofs.scavenge.tried.Goals as goal
@@ -26,12 +26,12 @@ returns-in_err-managed c =
 
 pub reach-visited-requires : goal.reach-visited-requires
 reach-visited-requires c =
-    let k = below _ _ _ _ (sym c.managed.ensures ∙ c.in_ok-managed.was) in
+    let k = (fit _ _ _ _ (sym c.managed.ensures ∙ c.in_ok-managed.was)).0 in
     omega arith
 
 pub decide-requires : goal.decide-requires
 decide-requires c =
-    let k = below _ _ _ _ (sym c.managed.ensures ∙ c.in_ok-managed.was) in (
+    let k = (fit _ _ _ _ (sym c.managed.ensures ∙ c.in_ok-managed.was)).0 in (
       omega (arith, c.reach-visited.ensures),
       c.reach-visited.ensures,
       c.requires,
