@@ -1,11 +1,11 @@
--- Profile, answered by answered.
+-- Profile: the entries that it writes, and what its tests and a call of it answer.
 -- Assumes nothing.
-use Prim.Native.Nat.{ℕ, ◌+◌, ◌*◌, ◌≤◌, ◌<◌}
+use Prim.Native.Nat.{ℕ, ◌+◌, ◌*◌, ◌≤◌}
 use mathlib.Core.Path.{◌≡◌, refl, sym, ◌∙◌}
 use mathlib.Core.Bool.{Bool, true, false, not}
-use mathlib.Core.List.{List, [], ◌++◌}
+use mathlib.Core.List.{List, ◌++◌}
 use native.Mathlib.Omega.{arith}
-use borrow.Author.Tests.{leb-false, ltb-false}
+use borrow.Author.Tests.{ltb-false}
 use lib.Dec.{ltb}
 use lib.ListN.{length}
 use Rattle.std.specs.Prelude.{Ok, Err}
@@ -23,7 +23,6 @@ use Rattle.tariff.specs.declared.Tariff.{Tariff}
 use Rattle.promise.specs.Trailer.{n_of}
 use Rattle.promise.specs.Header.{header_of, is_used}
 use Rattle.promise.specs.Refusals.{Row, lowest, receipt, refusal}
-use Rattle.promise.proofs.RowLaws.{clear}
 use Rattle.promise.specs.Keys.{reach, key_at, visited_good}
 use Rattle.promise.specs.Profile.{profiled, profile_row, profile_rows, profile_report, profile_answer, profile_buffer}
 use Rattle.promise.specs.Profile.{ProfilePromise}
@@ -34,7 +33,7 @@ use Rattle.front.proofs.Fronts.{reading_rising, reading_known}
 use Rattle.keys.specs.Visit.{used, entry_of}
 use Rattle.keys.specs.Asked.{manager_rows}
 use Rattle.keys.specs.declared.visit.Span.{Span}
-use Rattle.keys.proofs.Rows.{Clear, clears, in_groups, manager_rising, Call, Tried, refused}
+use Rattle.keys.proofs.Rows.{in_groups, manager_rising, manager_fit, Call, Tried, refused}
 use Rattle.keys.proofs.Rows.{let_through, its_span, front_passes, asked_passes}
 
 -- an entry has 24 bytes
@@ -49,15 +48,6 @@ pub entry-written : (l : List ℕ) (at owner created expires : ℕ) → at ≤ l
 entry-written l at owner created expires h =
     let s = next l at h _ _ 8 (refl, length-bytes_of 8 owner) (bytes_of 8 created) 8 (length-bytes_of 8 created) in
     (next l at h _ _ 16 s (bytes_of 8 expires) 8 (length-bytes_of 8 expires)).0
-
--- ---- where the numbers refuse nothing
-
-pub fit : (n client key : ℕ) (small : Bool) → Clear (manager_rows n client key small) → (key < n) × (small ≡ false)
-fit n client key small z =
-    let a = clear _ _ (omega arith) (clears (manager_rows n client key small) z) in
-    let b = clear _ _ (omega arith) a.1 in
-    let c = clear _ [] (omega arith) b.1 in
-    (leb-false n key b.0, c.0)
 
 -- ---- one block
 
@@ -120,7 +110,7 @@ module _ (img : List ℕ) (client key : ℕ) (buffer : List ℕ) where
   module _ (s : Span) (e : Tried the_call (Ok s)) where
     pub room_for : Laid img s.n × (s.from + s.visited ≤ s.n) × (s.visited ≤ 64) × (1536 ≤ length buffer)
     room_for =
-        let f = fit (n_of img) client key (ltb (length buffer) 1536) (asked_passes the_call e) in
+        let f = manager_fit (n_of img) client key (ltb (length buffer) 1536) (asked_passes the_call e) in
         rw (← its_span the_call e) (
           (reading_known img client (trailer_in img) (front_passes the_call e)).laid,
           omega arith,

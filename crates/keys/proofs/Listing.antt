@@ -1,4 +1,4 @@
--- GetIds, answered by answered.
+-- GetIds: the ids that it writes, and what its tests and a call of it answer.
 -- Assumes nothing.
 use Prim.Native.Nat.{ℕ, ◌+◌, ◌*◌, ◌≤◌, ◌<◌}
 use mathlib.Core.Path.{◌≡◌, refl, sym, ◌∙◌}

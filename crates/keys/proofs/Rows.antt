@@ -1,11 +1,12 @@
 -- The tests of a key call: its rows stand in three groups, those in front, those that numbers decide, and the row of
 -- the headers visited. And what the tests answer in each case.
 -- Assumes nothing.
-use Prim.Native.Nat.{ℕ}
+use Prim.Native.Nat.{ℕ, ◌<◌}
 use mathlib.Core.Path.{◌≡◌, refl, sym, ◌∙◌, ap}
 use mathlib.Core.Bool.{Bool, true, false, true≢false}
 use mathlib.Core.List.{List, [], ◌∷◌, ◌++◌}
 use native.Mathlib.Omega.{arith}
+use borrow.Author.Tests.{leb-false}
 use Rattle.std.specs.Prelude.{Result, Ok, Err}
 use Rattle.kinds.specs.declared.Report.{Report}
 use Rattle.kinds.specs.declared.Report.TheVariants.{Damaged}
@@ -40,6 +41,14 @@ first_clear xs ys e = go (succeeds (lowest xs)) refl
 pub manager_rising : (n client key : ℕ) (small : Bool) → rising 1 (manager_rows n client key small) ≡ true
 unfolding rising
 manager_rising n client key small = refl
+
+pub manager_fit : (n client key : ℕ) (small : Bool) → Clear (manager_rows n client key small)
+    → (key < n) × (small ≡ false)
+manager_fit n client key small z =
+    let a = clear _ _ (omega arith) (clears (manager_rows n client key small) z) in
+    let b = clear _ _ (omega arith) a.1 in
+    let c = clear _ [] (omega arith) b.1 in
+    (leb-false n key b.0, c.0)
 
 -- the rows of a key call, in their groups
 abbrev pub in_groups : (front asked : List Row) (damaged : Bool) → List Row

@@ -1,4 +1,4 @@
--- Scavenge, answered by answered: what the marks say is what the promise says.
+-- Scavenge: what the marks say is what the promise says, and what its tests and a call of it answer.
 -- Assumes nothing.
 use Prim.Native.Nat.{ℕ, ◌+◌, ◌≤◌, ◌<◌}
 use mathlib.Core.Path.{◌≡◌, refl, sym, ap, ◌∙◌}
@@ -32,8 +32,7 @@ use Rattle.front.proofs.Fronts.{changing_rising, changing_known, no_expiry}
 use Rattle.keys.specs.Marks.{loses, marked, has_count, freed, removed_by, Marks, Tallies, Lost}
 use Rattle.keys.specs.Asked.{manager_rows}
 use Rattle.keys.specs.declared.visit.Span.{Span}
-use Rattle.keys.proofs.Entries.{fit}
-use Rattle.keys.proofs.Rows.{in_groups, manager_rising, Call, Tried, refused}
+use Rattle.keys.proofs.Rows.{in_groups, manager_rising, manager_fit, Call, Tried, refused}
 use Rattle.keys.proofs.Rows.{let_through, its_span, front_passes, asked_passes, well}
 use Rattle.std.specs.Prelude.{Ok, Err}
 use Rattle.keys.proofs.Marks.{marked_is, owner_below}
@@ -181,7 +180,7 @@ module _ (img : List ℕ) (client key time : ℕ) where
         → Laid img s.n × (s.from + s.visited ≤ s.n) × (s.visited ≤ 64)
         × Lost img time s.from s.visited marks tally
     room_for marks tally lost =
-        let f = fit (n_of img) client key false (asked_passes the_call e) in
+        let f = manager_fit (n_of img) client key false (asked_passes the_call e) in
         rw (← its_span the_call e) (its_laid, omega arith, omega arith, lost)
 
     pub sweeps : (t : Tariff) (marks : List Bool) (tally : List ℕ)

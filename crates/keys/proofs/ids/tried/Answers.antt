@@ -13,9 +13,9 @@ returns-in_err-n c = rethrown c.from_residual.result _ c.from_residual.ensures.1
 pub returns-in_err-asked : goal.returns-in_err-asked
 returns-in_err-asked c =
     let r = c.in_err-asked.field-0.0 in
+    let o = sym c.reading.ensures ∙ c.in_ok-n.was in
     rethrown c.from_residual-in_err-asked.result r c.from_residual-in_err-asked.ensures.1
-    ∙ tried_asked (the_call _ _ _ _ _) (sym c.reading.ensures ∙ c.in_ok-n.was)
-    r (sym c.asked.ensures ∙ c.in_err-asked.was)
+    ∙ tried_asked (the_call _ _ _ _ _) o r (sym c.asked.ensures ∙ c.in_err-asked.was)
 
 pub reach-requires : goal.reach-requires
 reach-requires c =

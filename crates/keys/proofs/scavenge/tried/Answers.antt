@@ -3,8 +3,7 @@ use mathlib.Core.Path.{sym, ◌∙◌}
 use native.Mathlib.Omega.{arith}
 use borrow.Author.Tests.{not-true, not-false}
 use Rattle.front.proofs.Fronts.{rethrown, changing_known}
-use Rattle.keys.proofs.Entries.{fit}
-use Rattle.keys.proofs.Rows.{tried_front, tried_asked, reached, tried_damaged, tried_well}
+use Rattle.keys.proofs.Rows.{manager_fit, tried_front, tried_asked, reached, tried_damaged, tried_well}
 use Rattle.keys.proofs.Sweeps.{the_call}
 use Rattle.keys.proofs.scavenge.tried.Goals as goal
 
@@ -18,20 +17,20 @@ returns-in_err-n c =
 pub returns-in_err-managed : goal.returns-in_err-managed
 returns-in_err-managed c =
     let r = c.in_err-managed.field-0.0 in
+    let o = sym c.changing.ensures ∙ c.in_ok-n.was in
     let e = rethrown c.from_residual-in_err-managed.result r c.from_residual-in_err-managed.ensures.1 in record {
-      report = e ∙ tried_asked (the_call _ _ _ _) (sym c.changing.ensures ∙ c.in_ok-n.was) r (sym c.managed.ensures
-          ∙ c.in_err-managed.was);
+      report = e ∙ tried_asked (the_call _ _ _ _) o r (sym c.managed.ensures ∙ c.in_err-managed.was);
       losses = rw e tt;
     }
 
 pub reach-visited-requires : goal.reach-visited-requires
 reach-visited-requires c =
-    let k = (fit _ _ _ _ (sym c.managed.ensures ∙ c.in_ok-managed.was)).0 in
+    let k = (manager_fit _ _ _ _ (sym c.managed.ensures ∙ c.in_ok-managed.was)).0 in
     omega arith
 
 pub decide-requires : goal.decide-requires
 decide-requires c =
-    let k = (fit _ _ _ _ (sym c.managed.ensures ∙ c.in_ok-managed.was)).0 in (
+    let k = (manager_fit _ _ _ _ (sym c.managed.ensures ∙ c.in_ok-managed.was)).0 in (
       omega (arith, c.reach-visited.ensures),
       c.reach-visited.ensures,
       c.requires,
