@@ -7,4 +7,5 @@ use Rattle.keys.proofs.scavenge.give_scavenge.Goals as goal
 pub overflow_cast-result : goal.overflow_cast-result
 overflow_cast-result c =
     let a = c.args in
-    omega (arith, c.remove-count.ensures.gone, picked_few (marked a.losses.now.marks a.span.from) a.span.from a.span.visited)
+    let goes = marked a.losses.now.marks a.span.from in
+    omega (arith, c.remove-count.ensures.gone, picked_few goes a.span.from a.span.visited)

@@ -26,8 +26,12 @@ tally_loss-requires c =
     let l = c.loop-i in
     let o = owner_below a.img.now a.time.0 a.span.from a.span.visited c.requires.3 (a.span.from + l.i)
     (omega arith) (omega arith) in (
-      λ u h. omega
-          (arith, tally_few a.img.now a.time.0 a.span.from a.span.visited l.losses.tally l.i l.invariant.3 u h, c.requires.1),
+      λ u h. omega (
+        arith,
+        c.requires.1,
+        tally_few a.img.now a.time.0 a.span.from a.span.visited l.losses.tally l.i
+            l.invariant.3 u h,
+      ),
       rw c.loser-who.ensures (client_loses a.img.now a.time.0 (a.span.from + l.i) o),
     )
 
@@ -43,8 +47,8 @@ loop-i-preserved c =
       ap length c.tally_loss.ensures ∙ length-raised _ _ ∙ l.invariant.1,
       marked_on a.img.now a.time.0 a.span.from l.i l.losses.marks _ (omega (arith, l.invariant.0)) gone
           l.invariant.2,
-      rw (c.tally_loss.ensures, c.loser-who.ensures) (tally_turn a.img.now a.time.0 a.span.from a.span.visited l.losses.tally
-          l.i (omega arith) l.invariant.1 o l.invariant.3),
+      rw (c.tally_loss.ensures, c.loser-who.ensures) (tally_turn a.img.now a.time.0 a.span.from a.span.visited
+          l.losses.tally l.i (omega arith) l.invariant.1 o l.invariant.3),
     )
 
 pub returns : goal.returns

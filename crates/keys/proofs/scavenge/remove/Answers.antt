@@ -9,5 +9,5 @@ returns-else-count-gt0-clause-image c =
     let a = c.args in
     let p = c.requires in
     rw (c.free_blocks-count.ensures.image, c.set_clock.ensures)
-    (removed-none a.span.n a.time.0 a.losses.now.marks a.losses.now.tally a.span.from a.span.visited a.img.now p.3.0 p.3.1
-    (omega (arith, c.free_blocks-count.ensures.gone, c.if-count-gt0.false)))
+    (removed-none a.span.n a.time.0 a.losses.now.marks a.losses.now.tally a.span.from a.span.visited a.img.now
+    p.3.0 p.3.1 (omega (arith, c.free_blocks-count.ensures.gone, c.if-count-gt0.false)))
