@@ -1,4 +1,5 @@
-// Document 01's layout in numbers of bytes.
+// Document 01's layout in numbers of bytes. A part of so many bytes is lent as a slice: to have it as an array takes a
+// test of its length, which stays in the machine's code.
 
 pub const DISK_BLOCK: usize = 512;
 

@@ -58,7 +58,8 @@ pub fn free_bit(img: &mut [u8], n: usize, b: BlockNum)
     u8::put(img, at, m.wrapping_add(weight(i % 8)))
 }
 
-// The lowest free block from byte `from` of the map on. Of a byte that is 0 no bit is looked at.
+// The lowest free block from byte `from` of the map on. Of a byte that is 0 no bit is looked at. The next function has
+// the same loop over 8 bytes: one for both would need `trailing_zeros` of a trait, with its law.
 fn free_from(img: &[u8], n: usize, from: usize) -> Option<BlockNum>
     requires { Laid img.now n × (from ≤ n / 8) }
     ensures { result ≡ lowest_from n img.now (8 * from) }

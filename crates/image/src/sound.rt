@@ -1,4 +1,5 @@
-// Check: each header looked at once, with a tally of the owners; then the map's spare bits and the 64 counts.
+// Check: each header looked at once, with a tally of the owners; then the map's spare bits and the 64 counts. The tally
+// is an array: there is no heap. Its bound rises from eight headers to all, so it is said in each contract.
 ghost use Rattle.std.specs.Prelude.{◌≡◌, ℕ, ◌+◌, ◌*◌, ◌/◌, ◌<◌, ◌≤◌, true, slice_index};
 ghost use Rattle.plain.specs.Tests.{when, all};
 ghost use Rattle.run.specs.Run.{all_of, times};
@@ -29,7 +30,8 @@ fn tally_owner(h: Header, tally: &mut [u32; CLIENTS])
     tally[u] += 1;
 }
 
-// Whether the header of a block is good, by its map bit; if it is, it is tallied.
+// Whether the header of a block is good, by its map bit; if it is, it is tallied. Free and used stand apart, since only
+// one of them has an owner.
 fn visit(image: Image, b: BlockNum, bit: bool, tally: &mut [u32; CLIENTS]) -> bool
     requires { (b.0 < image.n) × (bit ≡ free image.n image.bytes.now b.0)
         × ((u : ℕ) → slice_index tally.old u ≤ 8192) }
@@ -95,7 +97,7 @@ fn visit_all(image: Image, tally: &mut [u32; CLIENTS]) -> bool
     true
 }
 
-// Whether a client's count is its tally.
+// Whether a client's count is its tally. Scavenge asks for no less, and this for the same: two definitions.
 fn same_count(img: &[u8], n: usize, u: User, tally: &[u32; CLIENTS]) -> bool
     requires { Laid img.now n × (u.0 < 64) }
     ensures { result ≡ same_count n img.now tally.now u.0 }

@@ -73,7 +73,8 @@ fn asked(n: usize, key: u32, count: u32, room: usize) -> Result<(), Report>
     Ok(())
 }
 
-// All tests of GetIds: what it visits, or the report that refuses it.
+// All tests of GetIds: what it visits, or the report that refuses it. Each key call has its own tests, in the order of
+// its rows: alike are only the lines that make what is visited.
 fn tried(client: User, key: u32, count: u32, ids: &[u8], img: &[u8]) -> Result<Span, Report>
     ensures { result ≡ answered (get_ids_report img.now client.0 key count ids.now)
         (span img.now key (ids_visited img.now client.0 key count)) }

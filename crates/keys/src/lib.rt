@@ -18,7 +18,7 @@ pub mod scavenge;
 mod visit;
 
 // The tests of Scavenge and Profile that numbers decide, after those in front: the manager, the key, and whether the
-// buffer is too small.
+// buffer is too small, as `manager_rows` has it.
 pub(crate) fn managed(n: usize, client: User, key: u32, small: bool) -> Result<(), Report>
     ensures { result ≡ answered (lowest (manager_rows n client.0 key small)) tt }
 {

@@ -89,7 +89,7 @@ fn has_counts(img: &[u8], n: usize, tally: &[u32; CLIENTS]) -> bool
     true
 }
 
-// Zeroes the header of a block and frees its bit, where it is to go; 1 where it is, else 0.
+// Zeroes the header of a block and frees its bit, where it is to go; how many went, 1 or 0, which are added up.
 fn free_one(img: &mut [u8], n: usize, b: usize, goes: bool) -> usize
     requires { Laid img.old n × (b < n) }
     ensures gone { result ≡ cond goes 1 0 }

@@ -46,6 +46,7 @@ pub(crate) fn visit(
 }
 
 // Tests all of `most` headers, which are 64 at most: so many of a client's blocks are not met before the last of them.
+// It is no loop of its own, so that the three operations have one.
 pub(crate) fn all_good(image: Image, from: usize, most: usize) -> bool
     requires { (from + most ≤ image.n) × (most ≤ 64) }
     ensures { result ≡ visited_good image.entry.bytes.now from most }

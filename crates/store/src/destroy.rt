@@ -31,7 +31,7 @@ fn erase(img: &mut [u8], n: usize, b: BlockNum, owner: User, count: u64, time: T
     counts::set_count(img, n, owner, count)
 }
 
-// All tests, and how many blocks the client has after it.
+// All tests, and how many blocks the client has after it: a pair, since it is taken apart at once.
 fn seek(client: User, id: Id, time: Tick, img: &[u8]) -> Result<(Found, u64), Report>
     ensures { result ≡ answered (lowest (destroy_rows img.now client.0 id.0 time.0))
         (found img.now (leads_to id.0), left_of img.now client.0) }

@@ -18,7 +18,7 @@ pub(crate) struct Found {
     pub b: BlockNum,
 }
 
-// The buffer's room, then the block that the id leads to.
+// The buffer's room, as `find_rows` has it, then the block that the id leads to.
 #[tactic(auto, using(crate::proofs::Lookups::find_cases))]
 fn find(id: Id, room: bool, image: Image) -> Result<BlockNum, Report>
     ensures { result ≡ answered (lowest (find_rows image.entry.bytes.now id.0 room))
@@ -49,7 +49,8 @@ pub(crate) fn seek(client: User, id: Id, room: bool, img: &[u8]) -> Result<Found
     Ok(Found { n, b })
 }
 
-// All tests of Replace and SetExpiry, and those of Destroy but its count's.
+// All tests of Replace and SetExpiry, and those of Destroy but its count's. It has other tests in front than `seek`, and
+// one behind.
 pub(crate) fn seek_own(
     client: User,
     id: Id,

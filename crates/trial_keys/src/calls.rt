@@ -93,7 +93,7 @@ impl fmt::Display for Seen {
     }
 }
 
-// Stands where there is no number to tell.
+// Stands where there is no number to tell: the case file has it.
 const UNTOLD: u64 = 999;
 
 // A charge as a number, where it is one of those that a key call has.

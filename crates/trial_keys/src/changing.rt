@@ -11,7 +11,8 @@ const MADE: [u8; 528] = [b'z'; 528];
 
 const REPLACED: [u8; 528] = [b'y'; 528];
 
-// A block, as the trial knows it. The default is a free one: NullId, of client 0.
+// A block, as the trial knows it. The default is a free one: NullId, of client 0. No Option: a Create that is refused
+// leaves NullId, and an owner.
 #[derive(Clone, Copy, Default)]
 pub(crate) struct Block {
     id: u64,

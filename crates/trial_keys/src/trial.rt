@@ -49,7 +49,7 @@ fn make_store(alloc: Global) -> Result<Vec<u8>, AllocError> {
     Ok(img)
 }
 
-// Copies as many bytes as both have.
+// Copies as many bytes as both have: `copy_from_slice` asks for as many on each side.
 fn copy(to: &mut [u8], from: &[u8]) {
     for (to, from) in to.iter_mut().zip(from) {
         *to = *from;

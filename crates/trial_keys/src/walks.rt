@@ -25,7 +25,7 @@ pub(crate) struct Asked {
     pub seed: u64,
 }
 
-// What is seen of a walk, or expected, in the numbers of the case file.
+// What is seen of a walk, or expected, in the numbers of the case file. A call's are as many, with other names.
 #[derive(Clone, Copy, PartialEq, Eq, Default)]
 pub(crate) struct Walked {
     // 1 where it ended, and a step more names nothing and leaves the record.

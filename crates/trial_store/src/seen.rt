@@ -1,4 +1,4 @@
-// What a call answers, and what it changes.
+// What a call answers, and what it changes. A 0 stands where document 01's tables have one.
 use std::fmt;
 
 // An operation's results.

@@ -77,7 +77,7 @@ impl<'a, R: Print> Trial<'a, R> {
         println!(self.rt; "\n{what}")
     }
 
-    // A byte of the image is made v, and a line says so.
+    // A byte of the image is made v, where it has one there, and a line says so.
     pub(crate) fn poke(&mut self, at: usize, v: u8) -> io::Result<()> {
         if at < SIZE {
             self.img[at] = v;

@@ -9,7 +9,8 @@ ghost use Rattle.word.specs.Word.{part, word_at, bytes_of, blank, all_zero};
 ghost use Rattle.word.specs.Write.{over};
 
 // A number that is stored in so many bytes, the lowest first: read from a place of a slice and written to one. What is
-// read is named byte by byte: that becomes one load, and a chunk that is asked for does not.
+// read is named byte by byte: that becomes one load, and a chunk that is asked for does not. The two longer ones are
+// written alike: `to_le_bytes` is of no trait.
 pub trait Number: Copy {
     ghost width: { ℕ };
 
