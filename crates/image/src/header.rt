@@ -83,6 +83,7 @@ impl Header<'_> {
         y - 256 * (y / 256 % 64) == 0 && word::is_zero(self.bytes, 48, 16)
     }
 
+    // By the numbers, which are what the tests name.
     #[tactic(auto, using(plain::specs::Tests::cascade), unfolding(plain::specs::Tests::all))]
     fn times_right(self, clock: Tick) -> bool
         ensures { result ≡ all (time_tests clock.0 self.entry.bytes.now) }

@@ -1,5 +1,5 @@
 // Document 01's layout in numbers of bytes. A part of so many bytes is lent as a slice: to have it as an array takes a
-// test of its length, which stays in the machine's code.
+// test of its length, which stays in the machine's code. Sums of these are written where a clause asks for the sum.
 
 pub const DISK_BLOCK: usize = 512;
 

@@ -1,4 +1,5 @@
 // The three key-linked operations: GetIds, Scavenge and Profile. Each decides its report before it writes a byte.
+// A loop's body is a function with a contract, to which is lent what it changes: so loops are `for`, and no chains.
 
 #![tactic(auto)]
 

@@ -7,7 +7,8 @@ ghost use Rattle.kinds.specs.Report.{number_of};
 
 pub mod limits;
 
-// A time, in ticks of 1 ms. A call takes any and refuses those from 2^40 on.
+// A time, in ticks of 1 ms. A call takes any and refuses those from 2^40 on. Times are compared by their numbers, which
+// are what promises name.
 #[repr(C)]
 #[derive(Clone, Copy, PartialEq, Eq)]
 pub struct Tick(pub u64);
@@ -22,7 +23,7 @@ pub struct Money(pub i64);
 #[derive(Clone, Copy, PartialEq, Eq)]
 pub struct User(pub u32);
 
-// A service block's number.
+// A service block's number, of 32 bits as in an id; a place in a slice is had from it by a cast.
 #[derive(Clone, Copy, PartialEq, Eq)]
 pub struct BlockNum(pub u32);
 

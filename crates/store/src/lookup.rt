@@ -49,8 +49,8 @@ pub(crate) fn seek(client: User, id: Id, room: bool, img: &[u8]) -> Result<Found
     Ok(Found { n, b })
 }
 
-// All tests of Replace and SetExpiry, and those of Destroy but its count's. It has other tests in front than `seek`, and
-// one behind.
+// All tests of Replace and SetExpiry, and those of Destroy but its count's. It has other tests in front than `seek`,
+// and one behind.
 pub(crate) fn seek_own(
     client: User,
     id: Id,

@@ -7,7 +7,7 @@ use crate::trial::Want::{Done, Refused};
 use crate::trial::{Trial, rows};
 use std::io;
 
-// Each call also has a client above 63: BadImage comes first.
+// Each call also has a client above 63: BadImage comes first. The image is cut for the first seven calls alone.
 fn bad_images(t: &mut Trial<impl Print>) -> io::Result<()> {
     t.fresh();
     t.cut = true;

@@ -30,7 +30,7 @@ pub fn start(client: User, count: u32) -> Walk
     }
 }
 
-// The answer of a step on an ended walk.
+// The answer of a step on an ended walk, free of charge. The crate does not stand on `front`, which has the like.
 fn ended_answer() -> GetIdsAnswer
     ensures { result ≡ ended_answer }
 {
