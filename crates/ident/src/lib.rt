@@ -12,7 +12,7 @@ use kinds::{BlockNum, Id, Tick};
 // The constants of the four rounds, in turn.
 const KEYS: [u32; 4] = [2654435761, 2246822519, 3266489917, 668265263];
 
-// One round: the halves (L, R) become (R, (L + R·K) mod 2^32).
+// One round: the halves (L, R) become (R, (L + R·K) mod 2^32). In u64 throughout: halves of u32 would be cast.
 fn round(k: u32, x: u64) -> u64
     ensures { result ≡ round_of k x }
 {

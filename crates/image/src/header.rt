@@ -23,7 +23,7 @@ pub struct Header<'a> {
     pub ghost octets: { Bytes bytes.now },
 }
 
-// The header of a block. Asks for its bytes and for no Image: who changes an image has none.
+// The header of a block. Asks for its bytes and for no Image: a function that changes an image has none.
 #[tactic(auto, using(crate::proofs::Tallies::lent_header))]
 pub fn of(img: &[u8], b: usize) -> Header<'_>
     requires { header_at b + 64 ≤ length img.now }

@@ -1,5 +1,6 @@
 // Check: each header looked at once, with a tally of the owners; then the map's spare bits and the 64 counts. The tally
-// is an array: there is no heap. Its bound rises from eight headers to all, so it is said in each contract.
+// is an array: there is no heap. For all headers it begins with zeros, for eight it may have 4,096 at a place, for one
+// 8,192: each contract says its own.
 ghost use Rattle.std.specs.Prelude.{◌≡◌, ℕ, ◌+◌, ◌*◌, ◌/◌, ◌<◌, ◌≤◌, true, slice_index};
 ghost use Rattle.plain.specs.Tests.{when, all};
 ghost use Rattle.run.specs.Run.{all_of, times};

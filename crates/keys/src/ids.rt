@@ -39,8 +39,8 @@ fn name_id(img: &[u8], client: User, b: usize, ids: &mut [u8], k: usize) -> usiz
     k + 1
 }
 
-// Names the client's among the blocks visited; their number. Profile has the same loop over its entries: a trait with
-// its laws and an impl for each would be six functions for these four.
+// Names the client's among the blocks visited; their number. Profile has the same loop over its entries: a test and a
+// store of a trait, an impl of both for each, a turn and a loop would be six functions for these four.
 fn name_ids(img: &[u8], client: User, span: Span, ids: &mut [u8]) -> usize
     requires { (header_at (span.from + span.visited) ≤ length img.now)
         × (length (picked (owned_by img.now client.0) span.from span.visited) ≤ 64)

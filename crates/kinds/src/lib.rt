@@ -23,7 +23,7 @@ pub struct Money(pub i64);
 #[derive(Clone, Copy, PartialEq, Eq)]
 pub struct User(pub u32);
 
-// A service block's number, of 32 bits as in an id; a place in a slice is had from it by a cast.
+// A service block's number, below 4,096 in an id; a place in a slice is had from it by a cast.
 #[derive(Clone, Copy, PartialEq, Eq)]
 pub struct BlockNum(pub u32);
 

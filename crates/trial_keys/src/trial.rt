@@ -68,7 +68,7 @@ impl<'a, R: Print> Trial<'a, R> {
         })
     }
 
-    // The end of a row, with a mark where it differs.
+    // The end of a row, with a mark where it differs. trial_store has the like: the programs share no crate.
     fn compare<T: PartialEq + fmt::Display>(&mut self, expected: &T, seen: &T) -> io::Result<()> {
         let right = expected == seen;
         let mark = if right { "" } else { " DIFFERS" };

@@ -30,7 +30,8 @@ pub fn start(client: User, count: u32) -> Walk
     }
 }
 
-// The answer of a step on an ended walk, free of charge. The crate does not stand on `front`, which has the like.
+// The answer of a step on an ended walk, free of charge. `front` has the like of its receipt: a crate to stand on for
+// one line.
 fn ended_answer() -> GetIdsAnswer
     ensures { result ≡ ended_answer }
 {
