@@ -27,14 +27,14 @@ use Rattle.promise.specs.Refusals.{Row, lowest, receipt, refusal}
 use Rattle.promise.specs.Keys.{reach, key_at, visited_good}
 use Rattle.promise.specs.Scavenge.{expired, gone, gone_of, scavenge_damaged, scavenge_rows, scavenge_report}
 use Rattle.promise.specs.Scavenge.{scavenged, scavenge_image, scavenge_answer, ScavengePromise, count_lowered}
-use Rattle.front.specs.Rows.{reading_rows, time_rows, changing_rows}
-use Rattle.front.proofs.Fronts.{changing_rising, changing_known, no_expiry}
+use Rattle.front.specs.Rows.{reading_rows, time_rows, changing_rows, answered}
+use Rattle.front.proofs.Fronts.{changing_rising, changing_known, no_expiry, told_err, told_ok}
 use Rattle.keys.specs.Marks.{loses, marked, has_count, freed, removed_by, Marks, Tallies, Lost}
 use Rattle.keys.specs.Asked.{manager_rows}
 use Rattle.keys.specs.declared.visit.Span.{Span}
 use Rattle.keys.proofs.Rows.{in_groups, manager_rising, manager_fit, Call, Tried, refused}
 use Rattle.keys.proofs.Rows.{let_through, its_span, front_passes, asked_passes, well}
-use Rattle.std.specs.Prelude.{Ok, Err}
+use Rattle.std.specs.Prelude.{Result, Ok, Err}
 use Rattle.keys.proofs.Marks.{marked_is, owner_below}
 use Rattle.keys.proofs.Lowers.{low, low_agree, lowers, swept}
 use Rattle.word.specs.Word.{Bytes, bytes_of}
@@ -167,10 +167,22 @@ module _ (img : List ℕ) (client key time : ℕ) where
     asked_rising = λ n. manager_rising n client key false;
   }
 
+  -- what the tests of a call answer: its own answer, or the report that refuses it
+  abbrev pub Answers : Tariff → Result ScavengeAnswer Report → Type 0
+  Answers t x = x ≡ answered (scavenge_report img client key time) (scavenge_answer t img client key time)
+
   pub refuses : (t : Tariff) (r : Report) → Tried the_call (Err r)
-      → ScavengePromise t img client key time (record { receipt = refusal t r; key = key; count = 0 }) img
-  unfolding scavenge_answer scavenge_image
-  refuses t r e = let w = refused the_call e in record { answer = rw (w.0, w.1); image = rw (w.0, w.1) }
+      → Answers t (Err r) × (img ≡ scavenge_image img client key time)
+  unfolding scavenge_image answered
+  refuses t r e = let w = refused the_call e in (rw (w.0, w.1), rw (w.0, w.1))
+
+  pub told_refused : (t : Tariff) (r : Report) → Answers t (Err r)
+      → record { receipt = refusal t r; key = key; count = 0 } ≡ scavenge_answer t img client key time
+  unfolding scavenge_answer
+  told_refused t r e = let w = told_err (scavenge_report img client key time) _ r (sym e) in rw (w.1, rw w.1 at w.0)
+
+  pub told_done : (t : Tariff) (a : ScavengeAnswer) → Answers t (Ok a) → a ≡ scavenge_answer t img client key time
+  told_done t a e = sym (told_ok (scavenge_report img client key time) _ a (sym e)).1
 
   module _ (s : Span) (e : Tried the_call (Ok s)) where
     its_laid : Laid img (n_of img)
@@ -204,3 +216,7 @@ module _ (img : List ℕ) (client key time : ℕ) where
           image = rw (let_through the_call e) (q ∙ rw (← its_span the_call e)
               (removed-is img time key m g (n_of img) refl refl l.number l.size b marks f tally y));
         }
+
+    pub answers : (t : Tariff) (a : ScavengeAnswer) → a ≡ scavenge_answer t img client key time → Answers t (Ok a)
+    unfolding answered
+    answers t a q = rw (let_through the_call e, q)

@@ -1,5 +1,5 @@
 // Scavenge: all is decided before a byte is stored. What is to go is kept in marks, one for each header visited.
-ghost use Rattle.std.specs.Prelude.{◌≡◌, true, not, cond, ℕ, ◌+◌, ◌≤◌, ◌<◌, ltb, length, get_or, OnOk, IfSome};
+ghost use Rattle.std.specs.Prelude.{◌≡◌, true, not, cond, ℕ, ◌+◌, ◌≤◌, ◌<◌, ltb, length, get_or, IfSome};
 ghost use Rattle.plain.specs.Tests.{when};
 ghost use Rattle.kinds.specs.declared.Report.TheVariants.{Success};
 ghost use Rattle.tariff.specs.Charges.{scavenge_charge};
@@ -7,13 +7,13 @@ ghost use Rattle.run.specs.Run as Run;
 ghost use Rattle.run.specs.Run.{picked, all_of, each};
 ghost use Rattle.promise.specs.Layout.{header_at};
 ghost use Rattle.promise.specs.Refusals.{receipt};
-ghost use Rattle.promise.specs.Keys.{key_at, reach, visited_good};
-ghost use Rattle.promise.specs.Scavenge.{scavenge_damaged, scavenge_report, ScavengePromise};
+ghost use Rattle.promise.specs.Keys.{key_at, visited_good};
+ghost use Rattle.promise.specs.Scavenge.{scavenge_damaged, scavenge_report, scavenge_answer, scavenge_image};
+ghost use Rattle.promise.specs.Scavenge.{ScavengePromise};
 ghost use Rattle.image.specs.Image.{Laid};
 ghost use Rattle.keys.specs.Marks.{loser_of, marked, raised_by, has_count, freed, lowered, owes, lowered_by};
 ghost use Rattle.keys.specs.Marks.{removed_by, Lost};
 ghost use Rattle.front.specs.Rows.{answered};
-ghost use Rattle.keys.specs.Asked.{span};
 
 use crate::visit::Span;
 use crate::{key_at, managed, reach, visit};
@@ -76,17 +76,16 @@ fn has_count(img: &[u8], n: usize, u: User, tally: &[u32; CLIENTS]) -> bool
     k <= counts::count_of(img, n, u)
 }
 
-// Whether no client's count is below its tally. A loop: from what `all` ensures, `all_of` was not proved.
+// Whether no client's count is below its tally. All are looked at: a loop that stops early does not vectorize.
 fn has_counts(img: &[u8], n: usize, tally: &[u32; CLIENTS]) -> bool
     requires { Laid img.now n }
     ensures { result ≡ all_of (has_count n img.now tally.now) 0 64 }
 {
+    let mut enough = true;
     for u in 0..CLIENTS as u32 {
-        if !has_count(img, n, User(u), tally) {
-            return false;
-        }
+        enough &= has_count(img, n, User(u), tally);
     }
-    true
+    enough
 }
 
 // Zeroes the header of a block and frees its bit, where it is to go; how many went, 1 or 0, which are added up.
@@ -172,37 +171,6 @@ fn decide(image: Image, span: Span, time: Tick, losses: &mut Losses) -> bool
     has_counts(image.bytes, image.n, &losses.tally)
 }
 
-// All tests of Scavenge: what it visits, or the report that refuses it. Where they pass, the blocks visited are marked,
-// and those that are to go are tallied by their owners.
-fn tried(
-    client: User,
-    key: u32,
-    time: Tick,
-    img: &[u8],
-    losses: &mut Losses,
-) -> Result<Span, Report>
-    requires { (u : ℕ) → get_or losses.old.tally u 0 ≡ 0 }
-    ensures report { result ≡ answered (scavenge_report img.now client.0 key time.0)
-        (span img.now key (reach img.now key)) }
-    ensures losses { OnOk result
-        (Lost img.now time.0 key (reach img.now key) losses.new.marks losses.new.tally) }
-{
-    let Trailer { n, clock } = front::changing(client, Tick(0), time, img)?;
-    managed(n, client, key, false)?;
-    let from = key as usize;
-    let visited = reach(n, from);
-    let span = Span { n, from, visited };
-    let image = Image {
-        bytes: img,
-        n,
-        clock,
-    };
-    if !decide(image, span, time, losses) {
-        return Err(Report::Damaged);
-    }
-    Ok(span)
-}
-
 // The answer of a call that is not refused, its blocks removed.
 fn give_scavenge(
     t: Tariff,
@@ -229,20 +197,49 @@ fn give_scavenge(
     }
 }
 
-// Scavenge: removes the blocks that are expired among the headers that it visits from the key upward.
-pub fn scavenge(t: Tariff, client: User, key: u32, time: Tick, img: &mut [u8]) -> ScavengeAnswer
-    ensures { ScavengePromise t img.old client.0 key time.0 result img.new }
+// All tests of Scavenge, and its answer, the blocks removed; or the report that refuses it. A call that numbers refuse
+// has made no marks yet.
+fn tried(
+    t: Tariff,
+    client: User,
+    key: u32,
+    time: Tick,
+    img: &mut [u8],
+) -> Result<ScavengeAnswer, Report>
+    ensures answer { result ≡ answered (scavenge_report img.old client.0 key time.0)
+        (scavenge_answer t img.old client.0 key time.0) }
+    ensures image { img.new ≡ scavenge_image img.old client.0 key time.0 }
 {
+    let Trailer { n, clock } = front::changing(client, Tick(0), time, img)?;
+    managed(n, client, key, false)?;
+    let from = key as usize;
+    let visited = reach(n, from);
+    let span = Span { n, from, visited };
+    let image = Image {
+        bytes: img,
+        n,
+        clock,
+    };
     let mut losses = Losses {
         marks: [false; MOST_HEADERS],
         tally: [0; CLIENTS],
     };
-    match tried(client, key, time, img, &mut losses) {
+    if !decide(image, span, time, &mut losses) {
+        return Err(Report::Damaged);
+    }
+    Ok(give_scavenge(t, time, span, &losses, img))
+}
+
+// Scavenge: removes the blocks that are expired among the headers that it visits from the key upward.
+pub fn scavenge(t: Tariff, client: User, key: u32, time: Tick, img: &mut [u8]) -> ScavengeAnswer
+    ensures { ScavengePromise t img.old client.0 key time.0 result img.new }
+{
+    match tried(t, client, key, time, img) {
         Err(r) => ScavengeAnswer {
             receipt: front::refused(t, r),
             key,
             count: 0,
         },
-        Ok(span) => give_scavenge(t, time, span, &losses, img),
+        Ok(answer) => answer,
     }
 }

@@ -117,9 +117,14 @@ impl<'a> Changing<'a> {
         }
     }
 
-    // The lowest block with an id, NullId for a free one.
+    // The lowest block with an id, NullId for a free one: of more than 4,096, the next one is.
     pub(crate) fn find(&self, id: u64) -> Option<usize> {
-        (0..self.n).find(|b| self.block(*b).id == id)
+        let known = self.n.min(self.blocks.len());
+        let place = self.blocks[..known].iter().position(|block| block.id == id);
+        if place.is_none() && id == 0 && known < self.n {
+            return Some(known);
+        }
+        place
     }
 
     // A report that is not the expected one is counted.
@@ -188,9 +193,10 @@ impl<'a> Changing<'a> {
     // The used blocks from one to before another that have expired are free then; how many.
     fn expire(&mut self, from: usize, to: usize, time: u64) -> u32 {
         let mut gone = 0u32;
-        for block in self.blocks.iter_mut().take(to).skip(from) {
-            if block.id != 0 && block.expires < time {
-                *block = Block::default();
+        for b in from..to {
+            let Block { id, expires, .. } = self.block(b);
+            if id != 0 && expires < time {
+                self.put(b, Block::default());
                 gone = gone.wrapping_add(1);
             }
         }
@@ -234,6 +240,7 @@ impl<'a> Changing<'a> {
     pub(crate) fn stood(&self, client: u32) -> usize {
         self.blocks
             .iter()
+            .take(self.n)
             .filter(|block| block.owner == client && block.stood)
             .count()
     }
@@ -242,6 +249,7 @@ impl<'a> Changing<'a> {
     pub(crate) fn missed(&self, client: u32) -> usize {
         self.blocks
             .iter()
+            .take(self.n)
             .filter(|block| block.owner == client && block.stood && !block.named)
             .count()
     }

@@ -41,11 +41,14 @@ pub(crate) fn is_written(buffer: &Buffer) -> bool {
     *buffer != BLANK
 }
 
-// Whether a buffer has the 528 bytes of a time, and no byte after them changed.
+// Whether a buffer has the 528 bytes of a time, and no byte after them changed. The first byte that is another ends it.
 fn has_bytes_of(buffer: &Buffer, time: u64) -> bool {
-    let mut filled = bytes_of(time);
-    filled[BLOCK] = UNWRITTEN;
-    *buffer == filled
+    let block = &buffer[..BLOCK];
+    buffer[BLOCK] == UNWRITTEN
+        && block
+            .iter()
+            .zip(time..)
+            .all(|(byte, place)| *byte == byte_at(place))
 }
 
 // The time whose bytes are in a buffer, or 0.

@@ -1,24 +1,20 @@
--- `keys::scavenge::has_counts` meets its contract. The invariant: the answer is the answer for the clients that are
--- left.
-use Prim.Native.Nat.{◌+◌, ◌-◌}
-use mathlib.Core.Path.{◌≡◌, sym, ◌∙◌}
-use native.Mathlib.Omega.{arith}
-use Rattle.run.proofs.Turns.{all_turn, all_stop, all_end}
+-- `keys::scavenge::has_counts` meets its contract.
+use mathlib.Core.Path.{refl, sym, ◌∙◌}
+use mathlib.Core.Bool.{and-true}
+use Rattle.std.proofs.Common.{zero-add}
+use Rattle.run.specs.Run.{all_of}
+use Rattle.run.proofs.Laws.{all_parts}
 use Rattle.keys.specs.Marks.{has_count}
 use Rattle.keys.proofs.scavenge.has_counts.Goals as goal
 
-pub returns-then-not-has_count : goal.returns-then-not-has_count
-returns-then-not-has_count c =
-    all_stop _ c.loop-u.u (64 - c.loop-u.u) (omega arith) (sym c.has_count.ensures ∙ c.if-not-has_count.true)
-    ∙ c.loop-u.invariant
+pub loop-u-init : goal.loop-u-init
+unfolding all_of
+loop-u-init c = refl
 
 pub loop-u-preserved : goal.loop-u-preserved
+unfolding all_of
 loop-u-preserved c =
     let a = c.args in
-    let z : 64 - c.loop-u.u - 1 ≡ 64 - (c.loop-u.u + 1) = omega arith in
-    let turn = all_turn (has_count a.n a.img.now a.tally.now) c.loop-u.u (64 - c.loop-u.u) (omega arith)
-    (sym c.has_count.ensures ∙ c.if-not-has_count.false) in
-    rw z at turn ∙ c.loop-u.invariant
-
-pub returns : goal.returns
-returns c = all_end _ c.loop-u.u (64 - c.loop-u.u) (omega arith) ∙ c.loop-u.invariant
+    let p = has_count a.n a.img.now a.tally.now in
+    let u = c.loop-u.u in
+    rw (c.loop-u.invariant, c.has_count-enough.ensures) (sym (all_parts p 0 u 1 ∙ rw (zero-add u, and-true (p u))))
