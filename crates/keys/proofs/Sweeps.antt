@@ -167,21 +167,21 @@ module _ (img : List ℕ) (client key time : ℕ) where
     asked_rising = λ n. manager_rising n client key false;
   }
 
-  -- what the tests of a call answer: its own answer, or the report that refuses it
-  abbrev pub Answers : Tariff → Result ScavengeAnswer Report → Type 0
-  Answers t x = x ≡ answered (scavenge_report img client key time) (scavenge_answer t img client key time)
+  -- what a call is told at its end: its own answer, or the report that refuses it
+  abbrev pub Told : Tariff → Result ScavengeAnswer Report → Type 0
+  Told t x = x ≡ answered (scavenge_report img client key time) (scavenge_answer t img client key time)
 
   pub refuses : (t : Tariff) (r : Report) → Tried the_call (Err r)
-      → Answers t (Err r) × (img ≡ scavenge_image img client key time)
+      → Told t (Err r) × (img ≡ scavenge_image img client key time)
   unfolding scavenge_image answered
   refuses t r e = let w = refused the_call e in (rw (w.0, w.1), rw (w.0, w.1))
 
-  pub told_refused : (t : Tariff) (r : Report) → Answers t (Err r)
+  pub told_refused : (t : Tariff) (r : Report) → Told t (Err r)
       → record { receipt = refusal t r; key = key; count = 0 } ≡ scavenge_answer t img client key time
   unfolding scavenge_answer
   told_refused t r e = let w = told_err (scavenge_report img client key time) _ r (sym e) in rw (w.1, rw w.1 at w.0)
 
-  pub told_done : (t : Tariff) (a : ScavengeAnswer) → Answers t (Ok a) → a ≡ scavenge_answer t img client key time
+  pub told_done : (t : Tariff) (a : ScavengeAnswer) → Told t (Ok a) → a ≡ scavenge_answer t img client key time
   told_done t a e = sym (told_ok (scavenge_report img client key time) _ a (sym e)).1
 
   module _ (s : Span) (e : Tried the_call (Ok s)) where
@@ -217,6 +217,6 @@ module _ (img : List ℕ) (client key time : ℕ) where
               (removed-is img time key m g (n_of img) refl refl l.number l.size b marks f tally y));
         }
 
-    pub answers : (t : Tariff) (a : ScavengeAnswer) → a ≡ scavenge_answer t img client key time → Answers t (Ok a)
+    pub tells : (t : Tariff) (a : ScavengeAnswer) → a ≡ scavenge_answer t img client key time → Told t (Ok a)
     unfolding answered
-    answers t a q = rw (let_through the_call e, q)
+    tells t a q = rw (let_through the_call e, q)

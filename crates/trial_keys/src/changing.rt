@@ -117,7 +117,7 @@ impl<'a> Changing<'a> {
         }
     }
 
-    // The lowest block with an id, NullId for a free one: of more than 4,096, the next one is.
+    // The lowest block with an id, NullId for a free one. A store of more than 4,096 blocks has a free one after those.
     pub(crate) fn find(&self, id: u64) -> Option<usize> {
         let known = self.n.min(self.blocks.len());
         let place = self.blocks[..known].iter().position(|block| block.id == id);

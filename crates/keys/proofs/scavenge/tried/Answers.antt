@@ -7,7 +7,7 @@ use Rattle.word.specs.Word.{Bytes}
 use Rattle.image.proofs.Checks.{zeros}
 use Rattle.front.proofs.Fronts.{rethrown, changing_known}
 use Rattle.keys.proofs.Rows.{manager_fit, tried_front, tried_asked, reached, tried_damaged, tried_well}
-use Rattle.keys.proofs.Sweeps.{the_call, refuses, room_for, sweeps, answers}
+use Rattle.keys.proofs.Sweeps.{the_call, refuses, room_for, sweeps, tells}
 use Rattle.keys.proofs.scavenge.tried.Goals as goal
 
 pub returns-in_err-n : goal.returns-in_err-n
@@ -69,7 +69,7 @@ returns c =
     let octets : Bytes a.img.now = λ x. omega (arith, c.slice_known-1.given x) in
     let p = sweeps _ _ _ _ _ e a.t _ _ (rw k at (c.decide.ensures.losses well)) octets _ _
     c.give_scavenge.ensures.answer c.give_scavenge.ensures.image in
-    record { answer = answers _ _ _ _ _ e _ _ p.answer; image = p.image }
+    record { answer = tells _ _ _ _ _ e _ _ p.answer; image = p.image }
 
 pub invariant_of-image : goal.invariant_of-image
 invariant_of-image c = record { known = changing_known _ _ _ _ _ (sym c.changing.ensures ∙ c.in_ok-n.was) }
